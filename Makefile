@@ -1,0 +1,15 @@
+# make test: proves every crate, tries the must-fail edits, runs the programs.
+# The last line is rt ci's 'N passed, 0 failed'; on a failure it is 'make test: failed'.
+SHELL := bash
+.SHELLFLAGS := -euo pipefail -c
+.ONESHELL:
+.PHONY: test
+
+test:
+	@trap 'code=$$?; rm -f "$${log:-}"; [ $$code = 0 ] || echo "make test: failed"' EXIT
+	command -v rt >/dev/null || { echo "make test: the command rt is missing: install the Rattle kit and put its bin folder on PATH"; exit 1; }
+	log=$$(mktemp)
+	rt ci 2>&1 | tee "$$log"
+	last=$$(tail -n 1 "$$log")
+	[[ $$last =~ ^[0-9]+\ passed,\ 0\ failed$$ ]] || { echo "make test: rt ci did not end in 'N passed, 0 failed'"; exit 1; }
+	echo "$$last"

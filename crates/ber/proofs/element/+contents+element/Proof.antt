@@ -1,0 +1,361 @@
+-- `element` and `contents` call each other. Measures: twice the octets for `element`, and one more for `contents`, which calls it on all of its own.
+use mathlib.Core.Path.{_≡_, refl, sym, ap, _∙_}
+use native.Mathlib.Omega.{arith}
+use borrow.Author.Needs.{needs}
+use lib.ListN.{length, drop, length-drop}
+use Rattle.ber.specs.Element.{contentsOf}
+use Rattle.base.proofs.Lists.{rest}
+use Rattle.ber.proofs.ElementAnswers.{rest-room, rest-step, rest-fault, rest-end, part-shorter, element-no-level, element-no-header, header-room, element-wrong, element-primitive, element-constructed, element-inside-wrong}
+use Prim.Native.Nat.{ℕ, _<_, _≤_, _+_, _-_, _*_}
+use borrow.Fn.Kinds.{In}
+use borrow.Fn.PlainCycle.{Measures, is, falls, and}
+use Rattle.ber.proofs.element.+contents+element.{statement}
+use Rattle.ber.proofs.element.+contents+element.Tie.{close}
+use Rattle.ber.proofs.element.contents.Reads as contents
+use Rattle.ber.proofs.element.contents.Kinds as contents-kinds
+use Rattle.ber.proofs.element.+contents+element.Lts-contents as contents-lts
+use Rattle.ber.proofs.element.element.Reads as element
+use Rattle.ber.proofs.element.element.Kinds as element-kinds
+use Rattle.ber.proofs.element.+contents+element.Lts-element as element-lts
+use Rattle.ber.proofs.rule.content_rule.Reads as content-rule-reads
+use Rattle.ber.proofs.header.header_of.Reads as header-of-reads
+
+abbrev μ-contents : Measures 1 contents-kinds.ps ℕ
+μ-contents κs a = 2 * length (a .0 .now) + 1
+
+abbrev μ-element : Measures 1 element-kinds.ps ℕ
+μ-element κs a = 2 * length (a .0 .now)
+
+abbrev contents-at : ℕ → In 1 contents-kinds.ps
+contents-at t = and 1 contents-kinds.ps (is 1 contents-kinds.ps μ-contents t) contents.Pre
+
+abbrev contents-below : ℕ → In 1 contents-kinds.ps
+contents-below t =
+    and 1 contents-kinds.ps (falls 1 contents-kinds.ps _<_ μ-contents t) contents.Pre
+
+abbrev element-at : ℕ → In 1 element-kinds.ps
+element-at t = and 1 element-kinds.ps (is 1 element-kinds.ps μ-element t) element.Pre
+
+abbrev element-below : ℕ → In 1 element-kinds.ps
+element-below t = and 1 element-kinds.ps (falls 1 element-kinds.ps _<_ μ-element t) element.Pre
+
+abbrev contents-Inv-loop : contents-lts.InvT-loop
+contents-Inv-loop s levels at₀ at =
+    (at ≤ length s) × (contentsOf levels s ≡ contentsOf levels (drop at s))
+
+abbrev contents-μ-loop : contents-lts.MeasureT-loop
+contents-μ-loop s levels at₀ at = length s - at
+
+contents-loop-holds :
+    (t : ℕ) →
+    contents-lts.Need-loop-holds
+    (element-below t, element.Post)
+    (contents-at t)
+    contents.Post
+    contents-Inv-loop
+    contents-μ-loop
+contents-loop-holds t c = (omega arith, refl)
+
+contents-sub-element :
+    (t : ℕ) →
+    contents-lts.Need-sub-element
+    (element-below t, element.Post)
+    (contents-at t)
+    contents.Post
+    contents-Inv-loop
+    contents-μ-loop
+contents-sub-element t c = omega arith
+
+contents-part-element-start : (t : ℕ) → contents-lts.Need-part-element-start (
+  element-below t,
+  element.Post,
+) (contents-at t) contents.Post contents-Inv-loop contents-μ-loop
+contents-part-element-start t c = omega arith
+
+contents-part-element-end : (t : ℕ) → contents-lts.Need-part-element-end (
+  element-below t,
+  element.Post,
+) (contents-at t) contents.Post contents-Inv-loop contents-μ-loop
+contents-part-element-end t c = search needs
+
+contents-element-requires : (t : ℕ) → contents-lts.Need-element-requires (
+  element-below t,
+  element.Post,
+) (contents-at t) contents.Post contents-Inv-loop contents-μ-loop
+contents-element-requires t c κs =
+    (omega (arith, ap length (rest (c .before .before .before .before .args .s .now) (c .before .before .loop .at)), length-drop (c .before .before .loop .at) (c .before .before .before .before .args .s .now), c .before .before .before .before .pre .0), tt)
+
+contents-enum-told :
+    (t : ℕ) →
+    contents-lts.Need-enum-told
+    (element-below t, element.Post)
+    (contents-at t)
+    contents.Post
+    contents-Inv-loop
+    contents-μ-loop
+contents-enum-told t c = search needs
+
+contents-returns :
+    (t : ℕ) →
+    contents-lts.Need-returns
+    (element-below t, element.Post)
+    (contents-at t)
+    contents.Post
+    contents-Inv-loop
+    contents-μ-loop
+contents-returns t c =
+    sym (c .before .before .before .before .before .loop .inv .1 ∙ rest-fault (c .before .before .before .before .before .before .before .args .levels) (c .before .before .before .before .before .before .before .args .s .now) (c .before .before .before .before .before .loop .at) (c .before .before .element .result) (c .before .before .element .ensures) (omega arith) (cc))
+
+contents-enum-known-len : (t : ℕ) → contents-lts.Need-enum-known-len (
+  element-below t,
+  element.Post,
+) (contents-at t) contents.Post contents-Inv-loop contents-μ-loop
+contents-enum-known-len t c = search needs
+
+contents-add-at :
+    (t : ℕ) →
+    contents-lts.Need-add-at
+    (element-below t, element.Post)
+    (contents-at t)
+    contents.Post
+    contents-Inv-loop
+    contents-μ-loop
+contents-add-at t c =
+    omega (arith, rest-room (c .before .before .before .before .before .before .before .before .args .levels) (c .before .before .before .before .before .before .before .before .args .s .now) (c .before .before .before .before .before .before .loop .at) (c .before .before .before .element .result) (c .before .before .before .element .ensures) (c .before .len .given .0 .0) (cc), c .before .before .before .before .before .before .before .before .good)
+
+contents-loop-less :
+    (t : ℕ) →
+    contents-lts.Need-loop-less
+    (element-below t, element.Post)
+    (contents-at t)
+    contents.Post
+    contents-Inv-loop
+    contents-μ-loop
+contents-loop-less t c =
+    omega (arith, rest-room (c .before .before .before .before .before .before .before .before .args .levels) (c .before .before .before .before .before .before .before .before .args .s .now) (c .before .before .before .before .before .before .loop .at) (c .before .before .before .element .result) (c .before .before .before .element .ensures) (c .before .len .given .0 .0) (cc))
+
+contents-loop-again :
+    (t : ℕ) →
+    contents-lts.Need-loop-again
+    (element-below t, element.Post)
+    (contents-at t)
+    contents.Post
+    contents-Inv-loop
+    contents-μ-loop
+contents-loop-again t c = (
+  omega (arith, rest-room (c .before .before .before .before .before .before .before .before .args .levels) (c .before .before .before .before .before .before .before .before .args .s .now) (c .before .before .before .before .before .before .loop .at) (c .before .before .before .element .result) (c .before .before .before .element .ensures) (c .before .len .given .0 .0) (cc)),
+  c .before .before .before .before .before .before .loop .inv .1 ∙ rest-step (c .before .before .before .before .before .before .before .before .args .levels) (c .before .before .before .before .before .before .before .before .args .s .now) (c .before .before .before .before .before .before .loop .at) (c .before .before .before .element .result) (c .before .before .before .element .ensures) (c .before .len .given .0 .0) (cc),
+)
+
+contents-returns-2 :
+    (t : ℕ) →
+    contents-lts.Need-returns-2
+    (element-below t, element.Post)
+    (contents-at t)
+    contents.Post
+    contents-Inv-loop
+    contents-μ-loop
+contents-returns-2 t c =
+    sym (c .before .loop .inv .1 ∙ rest-end (c .before .before .before .args .levels) (c .before .before .before .args .s .now) (c .before .loop .at) (omega arith))
+
+element-returns : (t : ℕ) → element-lts.Need-returns (
+  header-of-reads.Asked,
+  header-of-reads.Learnt,
+  content-rule-reads.Asked,
+  content-rule-reads.Learnt,
+  contents-below t,
+  contents.Post,
+) (element-at t) element.Post
+element-returns t c = element-no-level _ _ (omega arith)
+
+element-header-of-requires : (t : ℕ) → element-lts.Need-header-of-requires (
+  header-of-reads.Asked,
+  header-of-reads.Learnt,
+  content-rule-reads.Asked,
+  content-rule-reads.Learnt,
+  contents-below t,
+  contents.Post,
+) (element-at t) element.Post
+element-header-of-requires t c κs = search needs
+
+element-enum-told : (t : ℕ) → element-lts.Need-enum-told (
+  header-of-reads.Asked,
+  header-of-reads.Learnt,
+  content-rule-reads.Asked,
+  content-rule-reads.Learnt,
+  contents-below t,
+  contents.Post,
+) (element-at t) element.Post
+element-enum-told t c = search needs
+
+element-enum-known-id : (t : ℕ) → element-lts.Need-enum-known-id (
+  header-of-reads.Asked,
+  header-of-reads.Learnt,
+  content-rule-reads.Asked,
+  content-rule-reads.Learnt,
+  contents-below t,
+  contents.Post,
+) (element-at t) element.Post
+element-enum-known-id t c = search needs
+
+element-sub-c : (t : ℕ) → element-lts.Need-sub-c (
+  header-of-reads.Asked,
+  header-of-reads.Learnt,
+  content-rule-reads.Asked,
+  content-rule-reads.Learnt,
+  contents-below t,
+  contents.Post,
+) (element-at t) element.Post
+element-sub-c t c = omega (arith, header-room (c .before .before .before .before .before .before .args .levels) (c .before .before .before .before .before .before .args .s .now) (c .before .before .before .header-of .result) (c .before .before .before .before .if1 .left) (c .before .before .before .header-of .ensures) (c .before .id .given .0 .0) (c .before .id .given .0 .1 .0) (c .before .id .given .0 .1 .1 .0) (cc))
+
+element-part-c-start : (t : ℕ) → element-lts.Need-part-c-start (
+  header-of-reads.Asked,
+  header-of-reads.Learnt,
+  content-rule-reads.Asked,
+  content-rule-reads.Learnt,
+  contents-below t,
+  contents.Post,
+) (element-at t) element.Post
+element-part-c-start t c = omega (arith, header-room (c .before .before .before .before .before .before .args .levels) (c .before .before .before .before .before .before .args .s .now) (c .before .before .before .header-of .result) (c .before .before .before .before .if1 .left) (c .before .before .before .header-of .ensures) (c .before .id .given .0 .0) (c .before .id .given .0 .1 .0) (c .before .id .given .0 .1 .1 .0) (cc))
+
+element-part-c-end : (t : ℕ) → element-lts.Need-part-c-end (
+  header-of-reads.Asked,
+  header-of-reads.Learnt,
+  content-rule-reads.Asked,
+  content-rule-reads.Learnt,
+  contents-below t,
+  contents.Post,
+) (element-at t) element.Post
+element-part-c-end t c = omega (arith, header-room (c .before .before .before .before .before .before .args .levels) (c .before .before .before .before .before .before .args .s .now) (c .before .before .before .header-of .result) (c .before .before .before .before .if1 .left) (c .before .before .before .header-of .ensures) (c .before .id .given .0 .0) (c .before .id .given .0 .1 .0) (c .before .id .given .0 .1 .1 .0) (cc))
+
+element-content-rule-requires : (t : ℕ) → element-lts.Need-content-rule-requires (
+  header-of-reads.Asked,
+  header-of-reads.Learnt,
+  content-rule-reads.Asked,
+  content-rule-reads.Learnt,
+  contents-below t,
+  contents.Post,
+) (element-at t) element.Post
+element-content-rule-requires t c κs = search needs
+
+element-sub-contents : (t : ℕ) → element-lts.Need-sub-contents (
+  header-of-reads.Asked,
+  header-of-reads.Learnt,
+  content-rule-reads.Asked,
+  content-rule-reads.Learnt,
+  contents-below t,
+  contents.Post,
+) (element-at t) element.Post
+element-sub-contents t c = omega arith
+
+element-contents-requires : (t : ℕ) → element-lts.Need-contents-requires (
+  header-of-reads.Asked,
+  header-of-reads.Learnt,
+  content-rule-reads.Asked,
+  content-rule-reads.Learnt,
+  contents-below t,
+  contents.Post,
+) (element-at t) element.Post
+element-contents-requires t c κs =
+    (omega (arith, part-shorter (c .before .before .before .before .before .before .before .before .before .before .args .s .now) (c .before .before .before .before .before .id .given .0 .0) (c .before .before .before .before .before .id .given .0 .1 .0) (c .before .before .before .before .before .id .given .0 .1 .1 .0) (header-room (c .before .before .before .before .before .before .before .before .before .before .args .levels) (c .before .before .before .before .before .before .before .before .before .before .args .s .now) (c .before .before .before .before .before .before .before .header-of .result) (c .before .before .before .before .before .before .before .before .if1 .left) (c .before .before .before .before .before .before .before .header-of .ensures) (c .before .before .before .before .before .id .given .0 .0) (c .before .before .before .before .before .id .given .0 .1 .0) (c .before .before .before .before .before .id .given .0 .1 .1 .0) (cc)), c .before .before .before .before .before .before .before .before .before .before .pre .0), tt)
+
+element-returns-2 : (t : ℕ) → element-lts.Need-returns-2 (
+  header-of-reads.Asked,
+  header-of-reads.Learnt,
+  content-rule-reads.Asked,
+  content-rule-reads.Learnt,
+  contents-below t,
+  contents.Post,
+) (element-at t) element.Post
+element-returns-2 t c = element-no-header _ _ _ (c .before .before .before .if1 .left) (c .before .before .header-of .ensures) (cc)
+
+element-returns-3 : (t : ℕ) → element-lts.Need-returns-3 (
+  header-of-reads.Asked,
+  header-of-reads.Learnt,
+  content-rule-reads.Asked,
+  content-rule-reads.Learnt,
+  contents-below t,
+  contents.Post,
+) (element-at t) element.Post
+element-returns-3 t c =
+    element-constructed (c .before .before .before .before .before .before .before .before .before .before .before .before .args .levels) (c .before .before .before .before .before .before .before .before .before .before .before .before .args .s .now) (c .before .before .before .before .before .before .before .before .before .header-of .result) (c .before .before .before .before .before .before .before .before .before .before .if1 .left) (c .before .before .before .before .before .before .before .before .before .header-of .ensures) (c .before .before .before .before .before .before .before .id .given .0 .0) (c .before .before .before .before .before .before .before .id .given .0 .1 .0) (c .before .before .before .before .before .before .before .id .given .0 .1 .1 .0) (cc) (sym (c .before .before .before .before .content-rule .ensures) ∙ c .before .before .before .if2 .taken) (omega arith) (sym (c .before .contents .ensures) ∙ c .if4 .taken)
+
+element-returns-4 : (t : ℕ) → element-lts.Need-returns-4 (
+  header-of-reads.Asked,
+  header-of-reads.Learnt,
+  content-rule-reads.Asked,
+  content-rule-reads.Learnt,
+  contents-below t,
+  contents.Post,
+) (element-at t) element.Post
+element-returns-4 t c =
+    element-inside-wrong (c .before .before .before .before .before .before .before .before .before .before .before .before .args .levels) (c .before .before .before .before .before .before .before .before .before .before .before .before .args .s .now) (c .before .before .before .before .before .before .before .before .before .header-of .result) (c .before .before .before .before .before .before .before .before .before .before .if1 .left) (c .before .before .before .before .before .before .before .before .before .header-of .ensures) (c .before .before .before .before .before .before .before .id .given .0 .0) (c .before .before .before .before .before .before .before .id .given .0 .1 .0) (c .before .before .before .before .before .before .before .id .given .0 .1 .1 .0) (cc) (omega arith) (sym (c .before .contents .ensures) ∙ c .if4 .left)
+
+element-returns-5 : (t : ℕ) → element-lts.Need-returns-5 (
+  header-of-reads.Asked,
+  header-of-reads.Learnt,
+  content-rule-reads.Asked,
+  content-rule-reads.Learnt,
+  contents-below t,
+  contents.Post,
+) (element-at t) element.Post
+element-returns-5 t c =
+    element-primitive (c .before .before .before .before .before .before .before .before .before .before .args .levels) (c .before .before .before .before .before .before .before .before .before .before .args .s .now) (c .before .before .before .before .before .before .before .header-of .result) (c .before .before .before .before .before .before .before .before .if1 .left) (c .before .before .before .before .before .before .before .header-of .ensures) (c .before .before .before .before .before .id .given .0 .0) (c .before .before .before .before .before .id .given .0 .1 .0) (c .before .before .before .before .before .id .given .0 .1 .1 .0) (cc) (sym (c .before .before .content-rule .ensures) ∙ c .before .if2 .taken) (omega arith)
+
+element-returns-6 : (t : ℕ) → element-lts.Need-returns-6 (
+  header-of-reads.Asked,
+  header-of-reads.Learnt,
+  content-rule-reads.Asked,
+  content-rule-reads.Learnt,
+  contents-below t,
+  contents.Post,
+) (element-at t) element.Post
+element-returns-6 t c =
+    element-wrong (c .before .before .before .before .before .before .before .before .before .args .levels) (c .before .before .before .before .before .before .before .before .before .args .s .now) (c .before .before .before .before .before .before .header-of .result) (c .before .before .before .before .before .before .before .if1 .left) (c .before .before .before .before .before .before .header-of .ensures) (c .before .before .before .before .id .given .0 .0) (c .before .before .before .before .id .given .0 .1 .0) (c .before .before .before .before .id .given .0 .1 .1 .0) (cc) (sym (c .before .content-rule .ensures) ∙ c .if2 .left)
+
+pub +contents+element-spec : {M : Type 1} → statement M
++contents+element-spec = close μ-contents μ-element (λ t. contents-lts.spec (
+  element-below t,
+  element.Post,
+)
+    (contents-at t)
+    contents.Post
+    contents-Inv-loop
+    contents-μ-loop
+    (contents-loop-holds t)
+    (contents-sub-element t)
+    (contents-part-element-start t)
+    (contents-part-element-end t)
+    (contents-element-requires t)
+    (contents-enum-told t)
+    (contents-returns t)
+    (contents-enum-known-len t)
+    (contents-add-at t)
+    (contents-loop-less t)
+    (contents-loop-again t)
+    (contents-returns-2 t))
+    λ t. element-lts.spec (
+      header-of-reads.Asked,
+      header-of-reads.Learnt,
+      content-rule-reads.Asked,
+      content-rule-reads.Learnt,
+      contents-below t,
+      contents.Post,
+    )
+    (element-at t)
+    element.Post
+    (element-returns t)
+    (element-header-of-requires t)
+    (element-enum-told t)
+    (element-enum-known-id t)
+    (element-sub-c t)
+    (element-part-c-start t)
+    (element-part-c-end t)
+    (element-content-rule-requires t)
+    (element-sub-contents t)
+    (element-contents-requires t)
+    (element-returns-2 t)
+    (element-returns-3 t)
+    (element-returns-4 t)
+    (element-returns-5 t)
+    (element-returns-6 t)

@@ -1,0 +1,68 @@
+// The check that octets are elements: document 01, 'Well-formed octets'.
+use crate::header::Header;
+use crate::header::header_of;
+use crate::rule::content_rule;
+ghost use mathlib.Core.Path.{_≡_};
+ghost use Rattle.ber.specs.Element.{elementOf, contentsOf, wellFormed};
+
+// What a check finds at the front of octets: an element of so many octets, or a fault.
+pub enum Checked {
+    Good { len: usize },
+    Fault,
+}
+
+// The element at the front of s: how many octets it takes, with so many levels left.
+pub fn element(s: &[u8], levels: usize) -> Checked
+    ensures { λ r. ⌜ r ≡ elementOf levels (now (s .entry)) ⌝ }
+{
+    if levels == 0 {
+        return Checked::Fault;
+    }
+    match header_of(s) {
+        Header::NoHeader => Checked::Fault,
+        Header::At { id, start, end } => {
+            let c = &s[start..end];
+            if content_rule(id, c) {
+                if id / 32 % 2 == 1 {
+                    if contents(c, levels - 1) {
+                        Checked::Good { len: end }
+                    } else {
+                        Checked::Fault
+                    }
+                } else {
+                    Checked::Good { len: end }
+                }
+            } else {
+                Checked::Fault
+            }
+        }
+    }
+}
+
+// All of s is elements, end to end. The loop keeps the stack to two calls a level.
+pub fn contents(s: &[u8], levels: usize) -> bool
+    ensures { λ r. ⌜ r ≡ contentsOf levels (now (s .entry)) ⌝ }
+{
+    let mut at = 0;
+    while at < s.len() {
+        match element(&s[at..], levels) {
+            Checked::Fault => {
+                return false;
+            }
+            Checked::Good { len } => {
+                at += len;
+            }
+        }
+    }
+    true
+}
+
+// s is one element, of at most so many levels.
+pub fn well_formed(s: &[u8], levels: usize) -> bool
+    ensures { λ r. ⌜ r ≡ wellFormed levels (now (s .entry)) ⌝ }
+{
+    match element(s, levels) {
+        Checked::Fault => false,
+        Checked::Good { len } => len == s.len(),
+    }
+}

@@ -1,0 +1,172 @@
+-- The laws of sound sides and states. A sound side is its live records with unused places behind, so whatever keeps their list short and its ids apart keeps the side sound.
+use Prim.Native.Nat.{ℕ, zero, suc, _+_, _-_, _≤_, _<_}
+use native.Mathlib.Omega.{arith}
+use mathlib.Core.Path.{_≡_, refl, sym, ap, subst, _∙_}
+use mathlib.Core.Bool.{Bool, true, false, _&&_}
+use mathlib.Core.List.{List, [], _∷_, _++_, append-assoc}
+use borrow.Author.Tests.{eqb-true, lt-ltb, le-leb, leb-true}
+use lib.Dec.{eqb, leb}
+use lib.ListN.{length, drop, replicate, length-append, length-take, length-drop, take-append-drop}
+use lib.Seq.{set-append-seam, take-append-seam, drop-append-seam, length-take-le}
+use Rattle.base.proofs.Tests.{and-true, and-left, and-right}
+use Rattle.records.specs.declared.Code.{Code}
+use Rattle.records.specs.declared.OwnId.{OwnId}
+use Rattle.records.specs.declared.PeerId.{PeerId}
+use Rattle.records.specs.declared.Record.{Record}
+use Rattle.records.specs.declared.Records.{Records}
+use Rattle.records.specs.declared.State.{State}
+use Rattle.records.specs.Limits.{records}
+use Rattle.records.specs.Records.{sameCode, unused, view, pack, member, without, distinct, blank, soundRecords, added, retired}
+use Rattle.records.specs.State.{fresh, soundState, addOwn, addPeer, retireOwn, retirePeer, viewed, SoundAnswer}
+use Rattle.records.proofs.Laws.{same-code-equal, distinct-added, distinct-without, without-shorter, without-absent}
+
+-- ---- the list and the side that holds it
+
+pub view-pack : (l : List Record) → view (pack l) ≡ l
+view-pack l = take-append-seam l (replicate (records - length l) unused)
+
+one-less : (k : ℕ) → k < records → records - k ≡ suc (records - (k + 1))
+one-less k p = omega arith
+
+pub added-pack : (l : List Record) (r : Record) → length l < records → added (pack l) r ≡ pack (l ++ r ∷ [])
+added-pack l r p =
+    let e = one-less (length l) p in
+    simp (lt-ltb _ _ p, e, set-append-seam, length-append, append-assoc)
+
+pub retired-pack : (l : List Record) (n : ℕ) → retired (pack l) n ≡ pack (without n l)
+retired-pack l n = rw view-pack
+
+pub view-retired : (s : Records) (n : ℕ) → view (retired s n) ≡ without n (view s)
+view-retired s n = view-pack (without n (view s))
+
+-- ---- unused places
+
+blank-replicate : (k : ℕ) → blank (replicate k unused) ≡ true
+blank-replicate zero = refl
+blank-replicate (suc k) = blank-replicate k
+
+made-unused : (r : Record) → r .id ≡ unused .id → r .code ≡ unused .code → r ≡ unused
+made-unused r p q =
+    let e : _≡_ {A = Record} (record { id = r .id; code = r .code }) (record { id = unused .id; code = unused .code }) = cc in
+    e
+
+blank-is-unused : (l : List Record) → blank l ≡ true → l ≡ replicate (length l) unused
+blank-is-unused [] h = refl
+blank-is-unused (r ∷ l) h =
+    let place = and-left (eqb (r .id) 0 && sameCode (r .code) (unused .code)) (blank l) h in
+    let id = eqb-true (r .id) 0 (and-left (eqb (r .id) 0) (sameCode (r .code) (unused .code)) place) in
+    let code = same-code-equal (r .code) (unused .code) (and-right (eqb (r .id) 0) (sameCode (r .code) (unused .code)) place) in
+    let rest = blank-is-unused l (and-right (eqb (r .id) 0 && sameCode (r .code) (unused .code)) (blank l) h) in
+    rw (made-unused r id code, ← rest)
+
+-- ---- a sound side
+
+module _ (s : Records) (h : soundRecords s ≡ true) where
+  pub sound-is-short : s .count ≤ records
+  sound-is-short = leb-true (s .count) records (and-left (leb (s .count) records) (distinct (view s) && blank (drop (s .count) (s .places))) h)
+
+  behind-count : (distinct (view s) && blank (drop (s .count) (s .places))) ≡ true
+  behind-count = and-right (leb (s .count) records) (distinct (view s) && blank (drop (s .count) (s .places))) h
+
+  pub sound-is-distinct : distinct (view s) ≡ true
+  sound-is-distinct = and-left (distinct (view s)) (blank (drop (s .count) (s .places))) behind-count
+
+  sound-is-blank : blank (drop (s .count) (s .places)) ≡ true
+  sound-is-blank = and-right (distinct (view s)) (blank (drop (s .count) (s .places))) behind-count
+
+made-of : (s : Records) (n : ℕ) (l : List Record) → s .count ≡ n → s .places ≡ l → s ≡ record { count = n; places = l }
+made-of s n l p q =
+    let e : _≡_ {A = Records} (record { count = s .count; places = s .places }) (record { count = n; places = l }) = cc in
+    e
+
+-- a sound side is its live records with unused places behind
+pub sound-is-packed : (s : Records) → length (s .places) ≡ records → soundRecords s ≡ true → s ≡ pack (view s)
+sound-is-packed s full h =
+    let few = sound-is-short s h in
+    let n : length (view s) ≡ s .count = length-take-le (s .count) (s .places) (omega arith) in
+    let left : length (drop (s .count) (s .places)) ≡ records - s .count = length-drop (s .count) (s .places) ∙ ap (λ (k : ℕ). k - s .count) full in
+    let clear = blank-is-unused (drop (s .count) (s .places)) (sound-is-blank s h) in
+    let tail : replicate (records - length (view s)) unused ≡ drop (s .count) (s .places) = rw n (sym (clear ∙ ap (λ (k : ℕ). replicate k unused) left)) in
+    let all : view s ++ replicate (records - length (view s)) unused ≡ s .places = rw tail (take-append-drop (s .count) (s .places)) in
+    made-of s (length (view s)) (view s ++ replicate (records - length (view s)) unused) (sym n) (sym all)
+
+-- what the laws keep of a side: a list in the logic may have any length, so that the side is packed is said beside the test
+pub record Sound (s : Records) : Type 0 where
+  pub test : soundRecords s ≡ true
+  pub packed : s ≡ pack (view s)
+
+pub packed-is-sound : (l : List Record) → length l ≤ records → distinct l ≡ true → Sound (pack l)
+packed-is-sound l few once =
+    record {
+      test = simp (le-leb _ _ few, take-append-seam, drop-append-seam, once, blank-replicate);
+      packed = ap pack (sym (view-pack l));
+    }
+
+module _ {s : Records} (h : Sound s) where
+  pub sound-count : s .count ≡ length (view s)
+  sound-count = ap (λ (t : Records). t .count) (h .packed)
+
+  -- the new record goes last
+  pub added-is-packed : (r : Record) → length (view s) < records → added s r ≡ pack (view s ++ r ∷ [])
+  added-is-packed r room = ap (λ (t : Records). added t r) (h .packed) ∙ added-pack (view s) r room
+
+  pub view-added : (r : Record) → length (view s) < records → view (added s r) ≡ view s ++ r ∷ []
+  view-added r room = ap view (added-is-packed r room) ∙ view-pack (view s ++ r ∷ [])
+
+  pub added-is-sound : (r : Record) → length (view s) < records → member (r .id) (view s) ≡ false → Sound (added s r)
+  added-is-sound r room new =
+      subst Sound (sym (added-is-packed r room))
+      (packed-is-sound (view s ++ r ∷ []) (omega (arith, length-append (view s) (r ∷ []))) (distinct-added (view s) r (sound-is-distinct s (h .test)) new))
+
+  pub retired-is-sound : (n : ℕ) → Sound (retired s n)
+  retired-is-sound n =
+      packed-is-sound (without n (view s))
+      (omega (arith, without-shorter n (view s), length-take (s .count) (s .places), sound-is-short s (h .test)))
+      (distinct-without n (view s) (sound-is-distinct s (h .test)))
+
+  pub retired-absent : (n : ℕ) → member n (view s) ≡ false → retired s n ≡ s
+  retired-absent n gone = ap pack (without-absent n (view s) gone) ∙ sym (h .packed)
+
+-- ---- a sound state: each law is the law of a side
+
+pub record SoundBoth (s : State) : Type 0 where
+  pub own : Sound (s .own)
+  pub peer : Sound (s .peer)
+
+pub fresh-is-sound : SoundBoth fresh
+fresh-is-sound =
+    let side = packed-is-sound [] (omega arith) refl in
+    record { own = side; peer = side }
+
+-- what `State::sound` answers
+pub answer-is-sound : {s : State} {r : Bool} → SoundAnswer s r → r ≡ true → SoundBoth s
+answer-is-sound {s} {r} a h =
+    let both = sym (a .says) ∙ h in
+    record {
+      own = record { test = and-left (soundRecords (s .own)) (soundRecords (s .peer)) both; packed = ap (λ (t : State). t .own) (a .packed h) };
+      peer = record { test = and-right (soundRecords (s .own)) (soundRecords (s .peer)) both; packed = ap (λ (t : State). t .peer) (a .packed h) };
+    }
+
+pub both-packed : (s : State) → s .own ≡ pack (view (s .own)) → s .peer ≡ pack (view (s .peer)) → s ≡ viewed s
+both-packed s p q =
+    let e : _≡_ {A = State} (record { own = s .own; peer = s .peer }) (viewed s) = cc in
+    e
+
+module _ {s : State} (h : SoundBoth s) where
+  pub sound-state : soundState s ≡ true
+  sound-state = and-true (h .own .test) (h .peer .test)
+
+  pub sound-is-viewed : s ≡ viewed s
+  sound-is-viewed = both-packed s (h .own .packed) (h .peer .packed)
+
+  pub add-own-is-sound : (id : OwnId) (code : Code) → length (view (s .own)) < records → member (id .0) (view (s .own)) ≡ false → SoundBoth (addOwn s id code)
+  add-own-is-sound id code room new = record { own = added-is-sound (h .own) _ room new; peer = h .peer }
+
+  pub add-peer-is-sound : (id : PeerId) (code : Code) → length (view (s .peer)) < records → member (id .0) (view (s .peer)) ≡ false → SoundBoth (addPeer s id code)
+  add-peer-is-sound id code room new = record { own = h .own; peer = added-is-sound (h .peer) _ room new }
+
+  pub retire-own-is-sound : (id : OwnId) → SoundBoth (retireOwn s id)
+  retire-own-is-sound id = record { own = retired-is-sound (h .own) (id .0); peer = h .peer }
+
+  pub retire-peer-is-sound : (id : PeerId) → SoundBoth (retirePeer s id)
+  retire-peer-is-sound id = record { own = h .own; peer = retired-is-sound (h .peer) (id .0) }

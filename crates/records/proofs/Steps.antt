@@ -1,0 +1,89 @@
+-- One turn of each loop over the places of a side: what stands at i is the first of what is left.
+use Prim.Native.Nat.{ℕ, _+_, _≤_, _<_}
+use native.Mathlib.Numerals.{add-one}
+use native.Mathlib.Omega.{arith}
+use mathlib.Core.Path.{_≡_, sym, _∙_}
+use mathlib.Core.Bool.{Bool, true, false, not, _&&_}
+use mathlib.Core.List.{List, [], _∷_, _++_, map, append-nil}
+use borrow.Author.Tests.{eq-eqb, ne-eqb}
+use lib.ListN.{length, take, drop, getD, length-map, length-take, drop-of-length-le}
+use lib.Seq.{drop-cons, take-suc, getD-take}
+use Rattle.records.specs.declared.Record.{Record}
+use Rattle.records.specs.declared.Records.{Records}
+use Rattle.records.specs.declared.Found.the-variants.{Operation}
+use Rattle.records.specs.Limits.{records}
+use Rattle.records.specs.Records.{sameCode, unused, view, pack, lookup, member, without, distinct, blank, added, soundRecords, SideAnswer}
+use Rattle.records.proofs.Laws.{without-append, without-shorter}
+use Rattle.records.proofs.Soundness.{added-pack, sound-is-packed}
+
+-- what owning an array of structs tells of its length is told of the mapped list
+pub unmapped : {X Y : Type 0} (f : X → Y) (l : List X) (n : ℕ) → length (map f l) ≡ n → length l ≡ n
+unmapped f l n p = sym (length-map l f) ∙ p
+
+-- ---- whether the places from i on are unused
+module _ (l : List Record) (i : ℕ) (p : i < length l) where
+  place-at : drop i l ≡ getD l i unused ∷ drop (i + 1) l
+  place-at = rw (add-one, drop-cons l i unused)
+
+  pub blank-id : (getD l i unused .id ≡ 0 → ⊥) → blank (drop i l) ≡ false
+  blank-id h = rw place-at (simp (ne-eqb _ _ h))
+
+  pub blank-code : getD l i unused .id ≡ 0 → sameCode (getD l i unused .code) (unused .code) ≡ false → blank (drop i l) ≡ false
+  blank-code g h = rw place-at (simp (eq-eqb _ _ g, h))
+
+  pub blank-passed : getD l i unused .id ≡ 0 → sameCode (getD l i unused .code) (unused .code) ≡ true → blank (drop i l) ≡ blank (drop (i + 1) l)
+  blank-passed g h = rw place-at (simp (eq-eqb _ _ g, h))
+
+-- ---- the live record at i, and what is left behind it
+pub member-none : (n : ℕ) (l : List Record) (i : ℕ) → length l ≤ i → member n (drop i l) ≡ false
+member-none n l i p = rw (drop-of-length-le l p)
+
+module _ (s : Records) (i : ℕ) (p : i < length (view s)) where
+  at-live : i < s .count
+  at-live = omega (arith, length-take (s .count) (s .places))
+
+  left-at : drop i (view s) ≡ getD (s .places) i unused ∷ drop (i + 1) (view s)
+  left-at =
+      let q = at-live in
+      rw (add-one, drop-cons (view s) i unused, getD-take)
+
+  taken-at : take (i + 1) (view s) ≡ take i (view s) ++ getD (s .places) i unused ∷ []
+  taken-at =
+      let q = at-live in
+      rw (add-one, take-suc (view s) i unused, getD-take)
+
+  -- a search that has not found the id before i
+  module _ (n : ℕ) (e : lookup n (view s) ≡ lookup n (drop i (view s))) where
+    pub lookup-found : getD (s .places) i unused .id ≡ n → Operation (getD (s .places) i unused .code) ≡ lookup n (view s)
+    lookup-found h = rw (e, left-at) (simp (eq-eqb _ _ h))
+
+    pub lookup-passed : (getD (s .places) i unused .id ≡ n → ⊥) → lookup n (view s) ≡ lookup n (drop (i + 1) (view s))
+    lookup-passed h = e ∙ rw left-at (simp (ne-eqb _ _ h))
+
+  -- a search for an id among the records from i on
+  pub member-found : (n : ℕ) → getD (s .places) i unused .id ≡ n → member n (drop i (view s)) ≡ true
+  member-found n h = rw left-at (simp (eq-eqb _ _ h))
+
+  pub member-passed : (n : ℕ) → (getD (s .places) i unused .id ≡ n → ⊥) → member n (drop i (view s)) ≡ member n (drop (i + 1) (view s))
+  member-passed n h = rw left-at (simp (ne-eqb _ _ h))
+
+  -- whether an id stands twice from i on, once it is known whether the id at i stands behind i
+  pub distinct-at : (t : Bool) → member (getD (s .places) i unused .id) (drop (i + 1) (view s)) ≡ t → distinct (drop i (view s)) ≡ (not t && distinct (drop (i + 1) (view s)))
+  distinct-at t h = rw left-at (simp h)
+
+  -- the records that stay, as far as i
+  module _ (n : ℕ) where
+    pub gone-at : getD (s .places) i unused .id ≡ n → without n (take (i + 1) (view s)) ≡ without n (take i (view s))
+    gone-at h = rw (taken-at, without-append) (simp (eq-eqb _ _ h, append-nil))
+
+    kept-at : (getD (s .places) i unused .id ≡ n → ⊥) → without n (take (i + 1) (view s)) ≡ without n (take i (view s)) ++ getD (s .places) i unused ∷ []
+    kept-at h = rw (taken-at, without-append) (simp (ne-eqb _ _ h))
+
+    pub kept-step : (k : Records) → length (view s) ≤ records → k ≡ pack (without n (take i (view s))) → (getD (s .places) i unused .id ≡ n → ⊥) → added k (getD (s .places) i unused) ≡ pack (without n (take (i + 1) (view s)))
+    kept-step k q e h =
+        let few : length (without n (take i (view s))) < records = omega (arith, without-shorter n (take i (view s)), length-take i (view s)) in
+        rw (e, kept-at h) (added-pack (without n (take i (view s))) (getD (s .places) i unused) few)
+
+-- ---- soundness
+pub side-answer : (s : Records) (r : Bool) → length (s .places) ≡ records → r ≡ soundRecords s → SideAnswer s r
+side-answer s r full e = record { says = e; packed = λ h. sound-is-packed s full (sym e ∙ h) }

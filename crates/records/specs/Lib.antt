@@ -1,0 +1,4 @@
+-- What a reader must believe of the records: the limits, the records of one side, and the state of both.
+pub mod Limits
+pub mod Records
+pub mod State
