@@ -1,4 +1,4 @@
-# make test: proves every crate, tries the must-fail edits, runs the programs.
+# make test: proves every crate, tries the must-fail edits, runs the programs, then tests the second program.
 # The last line is rt ci's 'N passed, 0 failed'; on a failure it is 'make test: failed'.
 SHELL := bash
 .SHELLFLAGS := -euo pipefail -c
@@ -7,9 +7,12 @@ SHELL := bash
 
 test:
 	@trap 'code=$$?; rm -f "$${log:-}"; [ $$code = 0 ] || echo "make test: failed"' EXIT
-	command -v rt >/dev/null || { echo "make test: the command rt is missing: install the Rattle kit and put its bin folder on PATH"; exit 1; }
+	need() { command -v "$$1" >/dev/null || { echo "make test: the command $$1 is missing: $$2"; exit 1; }; }
+	need rt "install the Rattle kit and put its bin folder on PATH"
+	need cargo "install Rust; no crate is fetched"
 	log=$$(mktemp)
 	rt ci 2>&1 | tee "$$log"
 	last=$$(tail -n 1 "$$log")
 	[[ $$last =~ ^[0-9]+\ passed,\ 0\ failed$$ ]] || { echo "make test: rt ci did not end in 'N passed, 0 failed'"; exit 1; }
+	cargo test --release --offline --quiet --manifest-path tests/second/Cargo.toml
 	echo "$$last"

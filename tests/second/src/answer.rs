@@ -1,0 +1,148 @@
+//! What the six calls answer: indications, refusals and problems.
+//! Follows document 01, "Receiving" and the table of refusal numbers.
+
+/// What an accepted receive shows. Values are parts of the lent APDU, identifier included.
+#[derive(Clone, Copy, Debug, PartialEq, Eq)]
+pub enum Indication<'a> {
+    Invoke {
+        id: i32,
+        linked: Option<i32>,
+        code: i32,
+        value: Option<&'a [u8]>,
+    },
+    Result {
+        id: i32,
+        code: i32,
+        value: &'a [u8],
+        operation: i32,
+    },
+    AbsentResult {
+        id: i32,
+        operation: i32,
+    },
+    Error {
+        id: i32,
+        code: i32,
+        value: Option<&'a [u8]>,
+        operation: i32,
+    },
+    /// RO-REJECT-U: an invoke, result or error problem.
+    UserReject {
+        id: i32,
+        problem: Problem,
+    },
+    /// RO-REJECT-P: a general problem.
+    ProviderReject {
+        id: Option<i32>,
+        problem: Problem,
+    },
+}
+
+/// A problem of a Reject with its number.
+#[derive(Clone, Copy, Debug, PartialEq, Eq)]
+pub enum Problem {
+    General(u8),
+    Invoke(u8),
+    Result(u8),
+    Error(u8),
+}
+
+impl Problem {
+    pub const UNRECOGNIZED_APDU: Problem = Problem::General(0);
+    pub const MISTYPED_APDU: Problem = Problem::General(1);
+    pub const BADLY_STRUCTURED_APDU: Problem = Problem::General(2);
+
+    pub const DUPLICATE_INVOCATION: Problem = Problem::Invoke(0);
+    pub const UNRECOGNIZED_OPERATION: Problem = Problem::Invoke(1);
+    pub const MISTYPED_ARGUMENT: Problem = Problem::Invoke(2);
+    pub const RESOURCE_LIMITATION: Problem = Problem::Invoke(3);
+    pub const UNRECOGNIZED_LINKED_ID: Problem = Problem::Invoke(5);
+    pub const LINKED_RESPONSE_UNEXPECTED: Problem = Problem::Invoke(6);
+    pub const UNEXPECTED_LINKED_OPERATION: Problem = Problem::Invoke(7);
+
+    pub const RESULT_UNRECOGNIZED_INVOCATION: Problem = Problem::Result(0);
+    pub const RESULT_RESPONSE_UNEXPECTED: Problem = Problem::Result(1);
+    pub const MISTYPED_RESULT: Problem = Problem::Result(2);
+
+    pub const ERROR_UNRECOGNIZED_INVOCATION: Problem = Problem::Error(0);
+    pub const ERROR_RESPONSE_UNEXPECTED: Problem = Problem::Error(1);
+    pub const UNRECOGNIZED_ERROR: Problem = Problem::Error(2);
+    pub const UNEXPECTED_ERROR: Problem = Problem::Error(3);
+    pub const MISTYPED_PARAMETER: Problem = Problem::Error(4);
+
+    /// The problem a Reject carries, if its number is in range.
+    pub fn new(identifier: u8, number: u8) -> Option<Problem> {
+        match (identifier, number) {
+            (0x80, 0..=2) => Some(Problem::General(number)),
+            (0x81, 0..=7) => Some(Problem::Invoke(number)),
+            (0x82, 0..=2) => Some(Problem::Result(number)),
+            (0x83, 0..=4) => Some(Problem::Error(number)),
+            _ => None,
+        }
+    }
+
+    /// The identifier octet and the number.
+    pub fn octets(self) -> (u8, u8) {
+        match self {
+            Problem::General(number) => (0x80, number),
+            Problem::Invoke(number) => (0x81, number),
+            Problem::Result(number) => (0x82, number),
+            Problem::Error(number) => (0x83, number),
+        }
+    }
+}
+
+/// Why a call was refused.
+#[derive(Clone, Copy, Debug, PartialEq, Eq)]
+pub enum Refusal {
+    InvalidTable,
+    ShortOutput,
+    ReceivedTooLong,
+    UnknownOperation,
+    IdInUse,
+    SynchronousInvocationLive,
+    UnknownLinkedId,
+    NotAChild,
+    MalformedValue,
+    ValueRuleBroken,
+    NoSuchRecord,
+    ClassForbids,
+    UnlistedError,
+    OwnRecordsFull,
+    ApduTooLarge,
+    NoUserProblem,
+    UnacceptableReject,
+    /// A Reject of this many octets was written.
+    Rejected {
+        problem: Problem,
+        written: usize,
+    },
+    UnsoundState,
+}
+
+impl Refusal {
+    /// Document 01's number.
+    pub fn number(self) -> u8 {
+        match self {
+            Refusal::InvalidTable => 1,
+            Refusal::ShortOutput => 2,
+            Refusal::ReceivedTooLong => 3,
+            Refusal::UnknownOperation => 4,
+            Refusal::IdInUse => 5,
+            Refusal::SynchronousInvocationLive => 6,
+            Refusal::UnknownLinkedId => 7,
+            Refusal::NotAChild => 8,
+            Refusal::MalformedValue => 9,
+            Refusal::ValueRuleBroken => 10,
+            Refusal::NoSuchRecord => 11,
+            Refusal::ClassForbids => 12,
+            Refusal::UnlistedError => 13,
+            Refusal::OwnRecordsFull => 14,
+            Refusal::ApduTooLarge => 15,
+            Refusal::NoUserProblem => 16,
+            Refusal::UnacceptableReject => 17,
+            Refusal::Rejected { .. } => 18,
+            Refusal::UnsoundState => 19,
+        }
+    }
+}

@@ -1,0 +1,209 @@
+//! The book kept beside a list of calls at a kiosk and a controller, and the conclusions drawn from it.
+//! Follows document 01, "The book for demand 3"; it never looks at a state.
+
+use std::collections::{HashMap, HashSet};
+
+use crate::answer::{Indication, Problem, Refusal};
+use crate::apdu::{self, Apdu, Code};
+use crate::drive::Answer;
+use crate::frame::{self, Frame};
+use crate::show;
+use crate::table::Table;
+
+#[derive(Clone, Copy, Debug, PartialEq, Eq)]
+pub enum End {
+    Kiosk,
+    Controller,
+}
+
+/// A result (with no error code) or an error, given by the controller's caller or indicated at the kiosk.
+#[derive(Clone, Debug, PartialEq, Eq)]
+struct Given {
+    id: i32,
+    operation: Option<i32>,
+    error: Option<i32>,
+    value: Option<Vec<u8>>,
+}
+
+/// What must occur often enough in a long run.
+pub const ROWS: [&str; 11] = [
+    "results",
+    "absent results",
+    "errors",
+    "unlisted errors, O lacks the code",
+    "unlisted errors, O lacks the pair",
+    "repeated answers",
+    "late answers",
+    "retiring Rejects",
+    "forgets",
+    "class 5 invokes",
+    "linked invokes",
+];
+
+/// The book of one association, and how often each row occurred.
+#[derive(Default)]
+pub struct Book {
+    wire: [Vec<Vec<u8>>; 2],
+    asked: HashMap<i32, i32>,
+    heard: HashMap<i32, i32>,
+    given: HashMap<i32, Vec<Given>>,
+    answers: HashMap<Vec<u8>, Vec<Given>>,
+    live: HashSet<i32>,
+    indicated: HashSet<i32>,
+    pub counts: [u64; ROWS.len()],
+}
+
+impl Book {
+    /// The APDUs an end wrote, in order.
+    pub fn wire(&self, end: End) -> &[Vec<u8>] {
+        &self.wire[end as usize]
+    }
+
+    pub fn was_asked(&self, id: i32) -> bool {
+        self.asked.contains_key(&id)
+    }
+
+    pub fn live(&self) -> &HashSet<i32> {
+        &self.live
+    }
+
+    fn count(&mut self, row: &str) {
+        self.count_if(true, row);
+    }
+
+    fn count_if(&mut self, occurred: bool, row: &str) {
+        let at = ROWS.iter().position(|name| *name == row);
+        self.counts[at.expect("only named rows are counted")] += u64::from(occurred);
+    }
+
+    /// Checks the conclusions for a call and notes it; says what is wrong otherwise.
+    pub fn note(
+        &mut self,
+        o: &Table<'_>,
+        end: End,
+        (frame, answer, written): (&Frame<'_>, &Answer<'_>, &[u8]),
+    ) -> Result<(), String> {
+        if end == End::Kiosk && frame.kind == frame::RECEIVE {
+            self.check_answer(o, frame.payload, answer)?;
+            self.check_indication(answer)?;
+        }
+        if answer.is_accepted() {
+            match end {
+                End::Kiosk => self.note_kiosk(o, frame)?,
+                End::Controller => self.note_controller(frame, written),
+            }
+        }
+        if !written.is_empty() {
+            self.wire[end as usize].push(written.to_vec());
+        }
+        Ok(())
+    }
+
+    /// An answer that reaches the kiosk is accepted exactly when its id is live and O lists it, if it is an error.
+    fn check_answer(&mut self, o: &Table<'_>, octets: &[u8], answer: &Answer<'_>) -> Result<(), String> {
+        for given in self.answers.get(octets).cloned().unwrap_or_default() {
+            let live = self.live.contains(&given.id);
+            let unlisted = given.error.and_then(|error| unlisted(o, given.operation, error));
+            if answer.is_accepted() != (live && unlisted.is_none()) {
+                return Err(format!("the answer {} gave {answer:?}; live: {live}, {given:?}", show::hex(octets)));
+            }
+            match (live, unlisted) {
+                (true, Some(problem)) => {
+                    let right =
+                        matches!(answer, Answer::Refused(Refusal::Rejected { problem: p, .. }) if *p == problem);
+                    if !right {
+                        return Err(format!("the unlisted {given:?} gave {answer:?} in place of {problem:?}"));
+                    }
+                    self.count(match problem {
+                        Problem::UNRECOGNIZED_ERROR => "unlisted errors, O lacks the code",
+                        _ => "unlisted errors, O lacks the pair",
+                    });
+                }
+                (false, _) if self.indicated.contains(&given.id) => self.count("repeated answers"),
+                (false, _) => self.count("late answers"),
+                (true, None) => {}
+            }
+        }
+        Ok(())
+    }
+
+    /// A result or error indicated at the kiosk stands in given, its id and operation in asked; one id has one.
+    fn check_indication(&mut self, answer: &Answer<'_>) -> Result<(), String> {
+        let Answer::Indicated(indication) = *answer else { return Ok(()) };
+        let (row, id, operation, error, value) = match indication {
+            Indication::Result { id, value, operation, .. } => ("results", id, operation, None, Some(value)),
+            Indication::AbsentResult { id, operation } => ("absent results", id, operation, None, None),
+            Indication::Error { id, code, value, operation } => ("errors", id, operation, Some(code), value),
+            _ => return Ok(()),
+        };
+        let shown = Given { id, operation: Some(operation), error, value: value.map(<[u8]>::to_vec) };
+        if !self.given.get(&id).is_some_and(|given| given.contains(&shown)) {
+            return Err(format!("{shown:?} was indicated and never given"));
+        }
+        if self.asked.get(&id) != Some(&operation) {
+            return Err(format!("{shown:?} was indicated and never asked"));
+        }
+        if !self.indicated.insert(id) {
+            return Err(format!("{shown:?} was indicated, the second for its id"));
+        }
+        self.count(row);
+        Ok(())
+    }
+
+    fn note_kiosk(&mut self, o: &Table<'_>, frame: &Frame<'_>) -> Result<(), String> {
+        match (frame.kind, apdu::read(frame.payload)) {
+            (frame::INVOKE, _) => {
+                if self.asked.insert(frame.id, frame.code).is_some() {
+                    return Err(format!("id {} was used for two invocations", frame.id));
+                }
+                if o.operation(frame.code).is_some_and(|operation| operation.class == 5) {
+                    self.count("class 5 invokes");
+                } else {
+                    self.live.insert(frame.id);
+                }
+            }
+            (frame::FORGET, _) if frame.detail == 0 => {
+                self.live.remove(&frame.id);
+                self.count("forgets");
+            }
+            (frame::RECEIVE, Ok(Apdu::Result { id, .. } | Apdu::Error { id, .. })) => {
+                self.live.remove(&id);
+            }
+            (frame::RECEIVE, Ok(Apdu::Reject { id: Some(id), problem: Problem::Invoke(_) })) => {
+                let retired = self.live.remove(&id);
+                self.count_if(retired, "retiring Rejects");
+            }
+            (frame::RECEIVE, Ok(Apdu::Invoke(invoke))) if invoke.linked.is_some() => self.count("linked invokes"),
+            _ => {}
+        }
+        Ok(())
+    }
+
+    fn note_controller(&mut self, frame: &Frame<'_>, written: &[u8]) {
+        match (frame.kind, apdu::read(frame.payload)) {
+            (frame::RECEIVE, Ok(Apdu::Invoke(invoke))) => {
+                if let Code::Local(code) = invoke.code {
+                    self.heard.insert(invoke.id, code);
+                }
+            }
+            (frame::RESULT | frame::ERROR, _) => {
+                let given = Given {
+                    id: frame.id,
+                    operation: self.heard.get(&frame.id).copied(),
+                    error: (frame.kind == frame::ERROR).then_some(frame.code),
+                    value: (!frame.payload.is_empty()).then(|| frame.payload.to_vec()),
+                };
+                self.answers.entry(written.to_vec()).or_default().push(given.clone());
+                self.given.entry(frame.id).or_default().push(given);
+            }
+            _ => {}
+        }
+    }
+}
+
+/// Why O does not list the error for the operation, if it does not.
+fn unlisted(o: &Table<'_>, operation: Option<i32>, error: i32) -> Option<Problem> {
+    let Some(error) = o.error(error) else { return Some(Problem::UNRECOGNIZED_ERROR) };
+    let listed = operation.and_then(|code| o.operation(code)).is_some_and(|row| o.lists_error(&row, &error));
+    (!listed).then_some(Problem::UNEXPECTED_ERROR)
+}

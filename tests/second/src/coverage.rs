@@ -1,0 +1,284 @@
+//! Which rows of document 01 the generated scripts reach, and how often.
+
+use std::collections::HashMap;
+
+use crate::answer::{Problem, Refusal};
+use crate::cases;
+use crate::drive::Answer;
+use crate::faults;
+use crate::frame;
+use crate::generate::{self, Group, Label, Seen};
+use crate::model::Model;
+use crate::observe::{accepted_kinds, expects, record_limits, rejected_id_is_live, sort, value_limits};
+
+pub const SEEDS: u64 = 40;
+pub const CALLS: usize = 2000;
+const LEAST: u64 = 50;
+const LEAST_ACCEPTED_PERCENT: u64 = 30;
+
+/// The calls and the refusals each can give, in order of check.
+const REFUSALS: [(&str, &[u8]); 6] = [
+    ("receive", &[19, 1, 3, 2, 17, 18]),
+    ("invoke", &[19, 1, 4, 5, 6, 7, 8, 9, 10, 14, 15, 2]),
+    ("result", &[19, 1, 11, 12, 9, 10, 15, 2]),
+    ("error", &[19, 1, 11, 12, 13, 9, 10, 15, 2]),
+    ("user reject", &[19, 1, 16, 11, 2]),
+    ("forget", &[19, 1, 11, 12]),
+];
+
+/// Every problem that a receive can give.
+const PROBLEMS: [&str; 20] = [
+    "80 00",
+    "80 01 with id",
+    "80 01 with 05 00",
+    "80 02",
+    "81 00",
+    "81 01",
+    "81 02",
+    "81 03",
+    "81 05",
+    "81 06",
+    "81 07",
+    "82 00 without record",
+    "82 00 with another code",
+    "82 01",
+    "82 02",
+    "83 00",
+    "83 01",
+    "83 02",
+    "83 03",
+    "83 04",
+];
+
+const ACCEPTED: [&str; 26] = [
+    "invoke with value",
+    "invoke without value",
+    "linked invoke",
+    "class 5 invoke",
+    "result",
+    "absent result",
+    "error with value",
+    "error without value",
+    "reject-p with id",
+    "reject-p without id",
+    "reject-u 81 retiring",
+    "reject-u 81 without record",
+    "reject-u 82",
+    "reject-u 83",
+    "sent invoke with value",
+    "sent invoke without value",
+    "sent linked invoke",
+    "sent class 5 invoke",
+    "sent result",
+    "sent absent result",
+    "sent error with value",
+    "sent error without value",
+    "sent user reject",
+    "forgotten own",
+    "forgotten peer",
+    "same id on both sides",
+];
+
+const LIMITS: [&str; 52] = [
+    "received 4095 octets, accepted",
+    "received 4096 octets, accepted",
+    "received 4097 octets, refused 3",
+    "received 15 levels, accepted",
+    "received 16 levels, accepted",
+    "received 17 levels, 80 02",
+    "receive lent 10, refused 2",
+    "receive lent 11, accepted",
+    "receive lent 11, refused 18",
+    "receive lent 12, accepted",
+    "invoke of 4095 octets, sent",
+    "invoke of 4096 octets, sent",
+    "invoke of 4097 octets, refused 15",
+    "result of 4095 octets, sent",
+    "result of 4096 octets, sent",
+    "result of 4097 octets, refused 15",
+    "error of 4095 octets, sent",
+    "error of 4096 octets, sent",
+    "error of 4097 octets, refused 15",
+    "invoke of 15 levels, sent",
+    "invoke of 16 levels, sent",
+    "invoke of 17 levels, refused 15",
+    "result of 15 levels, sent",
+    "result of 16 levels, sent",
+    "result of 17 levels, refused 15",
+    "error of 15 levels, sent",
+    "error of 16 levels, sent",
+    "error of 17 levels, refused 15",
+    "invoke lent one less, refused 2",
+    "invoke lent exactly, sent",
+    "invoke lent one more, sent",
+    "result lent one less, refused 2",
+    "result lent exactly, sent",
+    "result lent one more, sent",
+    "error lent one less, refused 2",
+    "error lent exactly, sent",
+    "error lent one more, sent",
+    "user reject lent one less, refused 2",
+    "user reject lent exactly, sent",
+    "user reject lent one more, sent",
+    "31 own records, sent",
+    "32 own records, refused 14",
+    "32 own records, class 5 sent",
+    "31 peer records, accepted",
+    "32 peer records, 81 03",
+    "32 peer records, class 5 accepted",
+    "value of 16 levels, refused 15",
+    "value of 17 levels, refused 9",
+    "value over 4096 octets, refused 15",
+    "table lacks an own record's code",
+    "table lacks a peer record's code",
+    "live 0, 0, accepted",
+];
+
+const PARTS: [&str; 4] = ["operations", "errors", "error pairs", "child pairs"];
+
+/// How often each row occurred.
+pub struct Coverage {
+    rows: Vec<(String, u64)>,
+    places: HashMap<String, usize>,
+    calls: u64,
+    accepted: u64,
+    before: &'static str,
+}
+
+impl Default for Coverage {
+    fn default() -> Self {
+        let (rows, places) = (Vec::new(), HashMap::new());
+        let mut coverage = Coverage { rows, places, calls: 0, accepted: 0, before: "nothing" };
+        for (call, refusals) in REFUSALS {
+            refusals.iter().for_each(|number| coverage.row(format!("{call}: refused {number}")));
+        }
+        PROBLEMS.iter().for_each(|problem| coverage.row(format!("receive: {problem}")));
+        ACCEPTED.iter().for_each(|kind| coverage.row(format!("accepted: {kind}")));
+        LIMITS.iter().for_each(|limit| coverage.row(format!("limit: {limit}")));
+        for (part, most) in PARTS.iter().zip(Model::MOST) {
+            coverage.row(format!("limit: table of {} {part}, accepted", most - 1));
+            coverage.row(format!("limit: table of {most} {part}, accepted"));
+        }
+        for (group, names) in groups() {
+            names.iter().for_each(|name| coverage.row(label_row((group, name))));
+        }
+        for kind in ["an invoke", "an answer", "a reject", "a request", "a forget", "refusal 18", "another refusal"] {
+            coverage.row(format!("follow-up: accepted after {kind}"));
+        }
+        coverage
+    }
+}
+
+impl Coverage {
+    /// Watches generated scripts of so many seeds and calls.
+    pub fn of(seeds: u64, calls: usize) -> Coverage {
+        let mut coverage = Coverage::default();
+        for seed in 1..=seeds {
+            generate::watch(seed, calls, &mut |seen| coverage.note(seen));
+        }
+        coverage
+    }
+
+    /// Adds a row that must occur.
+    fn row(&mut self, row: String) {
+        self.places.insert(row.clone(), self.rows.len());
+        self.rows.push((row, 0));
+    }
+
+    /// Counts an occurrence, if there is such a row.
+    fn count(&mut self, row: String) {
+        if let Some(&place) = self.places.get(&row) {
+            self.rows[place].1 += 1;
+        }
+    }
+
+    fn note(&mut self, seen: &Seen<'_>) {
+        let call = REFUSALS[usize::from(seen.frame.kind - frame::RECEIVE)].0;
+        self.calls += 1;
+        self.accepted += u64::from(seen.answer.is_accepted());
+        match seen.answer {
+            Answer::Refused(refusal) => self.note_refusal(call, seen, *refusal),
+            answer => self.note_accepted(seen, answer),
+        }
+        for limit in record_limits(seen) {
+            self.count(format!("limit: {limit}"));
+        }
+        for limit in value_limits(call, seen) {
+            self.count(format!("limit: {limit}"));
+        }
+        if let Some(label) = seen.label.filter(|label| expects(label.0, seen)) {
+            self.count(label_row(label));
+        }
+        if seen.follows && seen.answer.is_accepted() {
+            self.count(format!("follow-up: accepted after {}", self.before));
+        }
+        self.before = sort(seen.answer);
+    }
+
+    fn note_refusal(&mut self, call: &str, seen: &Seen<'_>, refusal: Refusal) {
+        self.count(format!("{call}: refused {}", refusal.number()));
+        let Refusal::Rejected { problem, .. } = refusal else { return };
+        let (kind, number) = problem.octets();
+        let more = match problem {
+            Problem::MISTYPED_APDU if seen.written[2] == 0x05 => " with 05 00",
+            Problem::MISTYPED_APDU => " with id",
+            Problem::RESULT_UNRECOGNIZED_INVOCATION if rejected_id_is_live(seen) => " with another code",
+            Problem::RESULT_UNRECOGNIZED_INVOCATION => " without record",
+            _ => "",
+        };
+        self.count(format!("receive: {kind:02x} {number:02x}{more}"));
+    }
+
+    fn note_accepted(&mut self, seen: &Seen<'_>, answer: &Answer<'_>) {
+        for kind in accepted_kinds(seen, answer) {
+            self.count(format!("accepted: {kind}"));
+        }
+        let [own, peer] = [&seen.before.own, &seen.before.peer].map(|side| side.live());
+        if own.iter().any(|own| peer.iter().any(|peer| peer.id == own.id)) {
+            self.count("accepted: same id on both sides".to_string());
+        }
+        for (part, most) in (0..4).zip(Model::MOST) {
+            let count = usize::from(u16::from_be_bytes([seen.table[part * 4], seen.table[part * 4 + 1]]));
+            if count == most || count == most - 1 {
+                self.count(format!("limit: table of {count} {}, accepted", PARTS[part]));
+            }
+        }
+    }
+
+    /// The table of rows, and whether each occurred often enough.
+    pub fn report(&self) -> (String, bool) {
+        let mut text = String::new();
+        let mut enough = self.accepted * 100 >= self.calls * LEAST_ACCEPTED_PERCENT;
+        for (row, times) in &self.rows {
+            let mark = if *times < LEAST { "  TOO FEW" } else { "" };
+            text += &format!("{times:7}  {row}{mark}\n");
+            enough &= *times >= LEAST;
+        }
+        let percent = self.accepted as f64 * 100.0 / self.calls.max(1) as f64;
+        text += &format!("{} calls, {percent:.1} in 100 accepted, {} rows", self.calls, self.rows.len());
+        text += &format!(", each needs {LEAST}: {}\n", if enough { "enough" } else { "NOT ENOUGH" });
+        (text, enough)
+    }
+}
+
+fn groups() -> Vec<(Group, Vec<&'static str>)> {
+    let names = |list: &[cases::Named]| list.iter().map(|(name, _)| *name).collect();
+    vec![
+        (Group::InvalidTable, faults::TABLES.iter().map(|(name, _)| *name).collect()),
+        (Group::UnsoundState, faults::STATES.iter().map(|(name, _)| *name).collect()),
+        (Group::MalformedReceived, names(cases::MALFORMED)),
+        (Group::MalformedValue, names(cases::MALFORMED)),
+        (Group::WellFormedReceived, names(cases::WELL_FORMED)),
+        (Group::WellFormedValue, names(cases::WELL_FORMED)),
+        (Group::MistypedWithId, names(cases::MISTYPED_WITH_ID)),
+        (Group::MistypedWithoutId, names(cases::MISTYPED_WITHOUT_ID)),
+        (Group::Unrecognized, names(cases::UNRECOGNIZED)),
+        (Group::UnacceptableReject, names(cases::UNACCEPTABLE_REJECTS)),
+        (Group::AcceptableReject, names(cases::ACCEPTABLE_REJECTS)),
+        (Group::Damaged, vec!["octets changed, dropped or added"]),
+    ]
+}
+
+fn label_row((group, name): Label) -> String {
+    format!("{group:?}: {name}")
+}

@@ -1,0 +1,216 @@
+//! A kiosk with table O and a controller with table N, which extends O, over a channel that loses, repeats and
+//! reorders; every call is noted in the book of demand 3 and checked.
+
+use crate::book::{Book, End, ROWS};
+use crate::drive::{Drive, Step};
+use crate::frame::{self, Frame};
+use crate::model::{extends, Model};
+use crate::random::Random;
+use crate::show;
+use crate::state::{Record, State};
+use crate::table::{Rule, Table};
+use crate::values;
+
+/// How often each row must occur in a run of `LONG` calls; in a shorter one in proportion.
+const LEAST: u64 = 1000;
+const LONG: u64 = 1_000_000;
+
+/// Runs associations until so many calls are made: the counts, and whether all is as demand 3 says and often enough.
+pub fn run(seed: u64, calls: u64) -> (String, bool) {
+    let mut random = Random::new(seed);
+    let (mut counts, mut made, mut accepted, mut associations) = ([0; ROWS.len()], 0, 0, 0);
+    while made < calls {
+        associations += 1;
+        let most = random.between(300, 3000) as u64;
+        let mut association = Association::new(&mut random);
+        let stop = most.min(calls - made);
+        for _ in 0..stop {
+            if let Err(wrong) = association.step() {
+                return (format!("seed {seed} association {associations}: {wrong}\n"), false);
+            }
+        }
+        made += stop;
+        accepted += association.accepted;
+        counts.iter_mut().zip(association.book.counts).for_each(|(sum, count)| *sum += count);
+    }
+    let least = LEAST * calls / LONG;
+    let mut text = format!("{made} calls in {associations} associations, {accepted} accepted\n");
+    for (row, count) in ROWS.iter().zip(counts) {
+        text += &format!("{count:8}  {row}{}\n", if count < least { "  TOO FEW" } else { "" });
+    }
+    let enough = counts.iter().all(|&count| count >= least);
+    text +=
+        &format!("no conclusion failed, each row needs {least}: {}\n", if enough { "enough" } else { "NOT ENOUGH" });
+    (text, enough)
+}
+
+struct Association<'r> {
+    random: &'r mut Random,
+    book: Book,
+    drives: [Drive; 2],
+    models: [Model; 2],
+    /// How far each end has read the other's APDUs in order.
+    read: [usize; 2],
+    accepted: u64,
+}
+
+impl<'r> Association<'r> {
+    fn new(random: &'r mut Random) -> Self {
+        let (o, n) = loop {
+            let o = Model::random(random);
+            let n = o.extended(random);
+            let (old, new) = (o.octets(), n.octets());
+            if let (Some(old), Some(new)) = (Table::new(&old), Table::new(&new)) {
+                assert!(extends(&new, &old), "the controller's table extends the kiosk's");
+                break (o, n);
+            }
+        };
+        let drives = [&o, &n].map(|model| Drive::new(model.octets(), State::fresh()));
+        Association { random, book: Book::default(), drives, models: [o, n], read: [0; 2], accepted: 0 }
+    }
+
+    /// One call at one end, checked and noted.
+    fn step(&mut self) -> Result<(), String> {
+        match self.random.below(100) {
+            0..=15 => self.invoke(End::Kiosk),
+            16..=43 => self.receive(End::Kiosk),
+            44..=46 => self.forget(End::Kiosk),
+            47..=51 => self.answer(End::Kiosk),
+            52..=72 => self.receive(End::Controller),
+            73..=90 => self.answer(End::Controller),
+            91..=98 => self.invoke(End::Controller),
+            _ => self.forget(End::Controller),
+        }
+    }
+
+    fn call(&mut self, end: End, frame: Frame<'_>) -> Result<(), String> {
+        let drive = &mut self.drives[end as usize];
+        let Step::Called(answer) = drive.step(&frame) else { return Ok(()) };
+        let written = drive.output(answer.written()).to_vec();
+        self.accepted += u64::from(answer.is_accepted());
+        let octets = self.models[0].octets();
+        let o = Table::new(&octets).ok_or("the kiosk's table is not valid")?;
+        self.book
+            .note(&o, end, (&frame, &answer, &written))
+            .map_err(|wrong| format!("{wrong}\nat the {end:?}, {}{}", show::frame(&frame), show::table(&octets)))
+    }
+
+    /// Hands over the next APDU, skips some, or takes an old or recent one again.
+    fn receive(&mut self, end: End) -> Result<(), String> {
+        let other = if end == End::Kiosk { End::Controller } else { End::Kiosk };
+        let sent = self.book.wire(other).len();
+        if sent == 0 {
+            return self.forget(end);
+        }
+        let next = &mut self.read[end as usize];
+        if self.random.percent(5) {
+            *next += self.random.below(4);
+        }
+        let at = match self.random.below(100) {
+            0..=69 if *next < sent => {
+                *next += 1;
+                *next - 1
+            }
+            0..=94 => sent - 1 - self.random.below(sent.min(12)),
+            _ => self.random.below(sent),
+        };
+        let payload = self.book.wire(other)[at].clone();
+        let short = end == End::Controller && self.random.percent(2);
+        let lent = if short { self.random.below(11) } else { self.random.between(11, 20) } as u16;
+        self.call(end, Frame { kind: frame::RECEIVE, lent, payload: &payload, ..Frame::default() })
+    }
+
+    fn invoke(&mut self, end: End) -> Result<(), String> {
+        let parent = self.peer_record(end).filter(|_| self.random.percent(50));
+        let model = &self.models[end as usize];
+        let mut row = self.random.pick(&model.operations);
+        if let Some((index, _)) = parent.and_then(|parent| model.operation(parent.code)) {
+            let pair = self.random.pick_where(&model.child_pairs, |pair| usize::from(pair.0) == index);
+            row = pair.map(|pair| model.operations[usize::from(pair.1)]).or(row);
+        }
+        let Some(row) = row else { return self.forget(end) };
+        let id = self.new_id(end);
+        let payload = self.value(row.argument_rule());
+        let (detail, linked) = parent.map_or((0, 0), |parent| (1, parent.id));
+        let lent = self.lent();
+        self.call(end, Frame { kind: frame::INVOKE, detail, lent, id, code: row.code, linked, payload: &payload })
+    }
+
+    /// An id for an invocation: the kiosk's is live, and so refused, or was never accepted.
+    fn new_id(&mut self, end: End) -> i32 {
+        if end == End::Controller {
+            return self.random.number();
+        }
+        let live = self.drives[0].state.own.live().first();
+        if let Some(record) = live.filter(|record| self.book.live().contains(&record.id) && self.random.percent(5)) {
+            return record.id;
+        }
+        loop {
+            let id = match self.random.percent(50) {
+                true => self.random.number(),
+                false => self.random.draw() as i32,
+            };
+            if !self.book.was_asked(id) {
+                return id;
+            }
+        }
+    }
+
+    /// A result, an error or a user reject to an invocation of the other end.
+    fn answer(&mut self, end: End) -> Result<(), String> {
+        let Some(record) = self.peer_record(end) else { return self.receive(end) };
+        let id = if self.random.percent(3) { self.random.number() } else { record.id };
+        let lent = self.lent();
+        if self.random.percent(5) {
+            let detail = self.random.between(1, 4) as u8;
+            return self.call(end, Frame { kind: frame::REJECT, detail, lent, id, ..Frame::default() });
+        }
+        let model = &self.models[end as usize];
+        let Some((index, row)) = model.operation(record.code) else { return self.receive(end) };
+        let errors = self.random.percent(if row.class == 3 { 90 } else { 45 });
+        if errors && row.class != 4 {
+            let pair = self.random.pick_where(&model.error_pairs, |pair| usize::from(pair.0) == index);
+            let any = self.random.pick(&model.errors).filter(|_| self.random.percent(10));
+            let error = pair.map(|pair| model.errors[usize::from(pair.1)]).or(any);
+            if let Some(error) = error {
+                let payload = self.value(error.rule());
+                let code = error.code;
+                return self
+                    .call(end, Frame { kind: frame::ERROR, lent, id, code, payload: &payload, ..Frame::default() });
+            }
+        }
+        let payload = self.value(row.result_rule());
+        self.call(end, Frame { kind: frame::RESULT, lent, id, payload: &payload, ..Frame::default() })
+    }
+
+    /// Forgets an own record mostly, so that late answers come; else a peer record.
+    fn forget(&mut self, end: End) -> Result<(), String> {
+        let own = self.random.percent(80);
+        let state = &self.drives[end as usize].state;
+        let side = if own { &state.own } else { &state.peer };
+        let id = self.random.pick(side.live()).map_or(7, |record| record.id);
+        self.call(end, Frame { kind: frame::FORGET, detail: u8::from(!own), id, ..Frame::default() })
+    }
+
+    fn peer_record(&mut self, end: End) -> Option<Record> {
+        self.random.pick(self.drives[end as usize].state.peer.live())
+    }
+
+    /// A right value, or none where none is right; rarely one that breaks the rule.
+    fn value(&mut self, rule: Rule) -> Vec<u8> {
+        let broken = self.random.percent(3);
+        if broken != (rule.kind == 0 || rule.optional && self.random.percent(40)) {
+            return Vec::new();
+        }
+        values::value(self.random, if broken { 0x0C } else { rule.kind })
+    }
+
+    /// Room enough, mostly.
+    fn lent(&mut self) -> u16 {
+        if self.random.percent(2) {
+            self.random.below(12) as u16
+        } else {
+            1000
+        }
+    }
+}

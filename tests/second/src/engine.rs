@@ -1,0 +1,289 @@
+//! The six calls: receive, the four requests and forget. A refused call leaves the state as given.
+//! Follows document 01, "Receiving, in order of check" and "Requests, in order of check".
+
+use crate::answer::{Indication, Problem, Refusal};
+use crate::apdu::{self, Apdu, Code, Invoke, Outgoing};
+use crate::octets;
+use crate::state::{Side, State};
+use crate::table::{Rule, Table};
+
+/// The longest Reject; receive needs room for it.
+pub const REJECT_OCTETS: usize = 11;
+
+/// Which side's record to forget.
+#[derive(Clone, Copy, Debug, PartialEq, Eq)]
+pub enum Invocation {
+    Own(i32),
+    Peer(i32),
+}
+
+/// The check every call starts with: 19, then 1.
+fn open<'t>(table: &'t [u8], state: &State) -> Result<Table<'t>, Refusal> {
+    if !state.is_sound() {
+        return Err(Refusal::UnsoundState);
+    }
+    let table = Table::new(table).ok_or(Refusal::InvalidTable)?;
+    let knows = |side: &Side| side.live().iter().all(|record| table.operation(record.code).is_some());
+    if knows(&state.own) && knows(&state.peer) {
+        Ok(table)
+    } else {
+        Err(Refusal::InvalidTable)
+    }
+}
+
+/// Takes a received APDU: an indication, or a refusal with a Reject written (18) or without.
+pub fn receive<'a>(
+    table: &[u8],
+    state: &mut State,
+    octets: &'a [u8],
+    output: &mut [u8],
+) -> Result<Indication<'a>, Refusal> {
+    let table = open(table, state)?;
+    if octets.len() > State::OCTETS {
+        return Err(Refusal::ReceivedTooLong);
+    }
+    if output.len() < REJECT_OCTETS {
+        return Err(Refusal::ShortOutput);
+    }
+    let mut reject = |id, problem| {
+        let written = Outgoing::Reject { id, problem }.write(output);
+        Refusal::Rejected { problem, written }
+    };
+    match apdu::read(octets) {
+        Ok(Apdu::Invoke(invoke)) => {
+            receive_invoke(&table, state, invoke).map_err(|problem| reject(Some(invoke.id), problem))
+        }
+        Ok(Apdu::Result { id, returned }) => {
+            receive_result(&table, state, id, returned).map_err(|problem| reject(Some(id), problem))
+        }
+        Ok(Apdu::Error { id, code, value }) => {
+            receive_error(&table, state, id, code, value).map_err(|problem| reject(Some(id), problem))
+        }
+        Ok(Apdu::Reject { id, problem }) => Ok(receive_reject(state, id, problem)),
+        Err(_) if octets.first() == Some(&apdu::REJECT) => Err(Refusal::UnacceptableReject),
+        Err(unreadable) => Err(reject(unreadable.id, unreadable.problem)),
+    }
+}
+
+fn receive_invoke<'a>(table: &Table, state: &mut State, invoke: Invoke<'a>) -> Result<Indication<'a>, Problem> {
+    let Invoke { id, linked, code, value } = invoke;
+    if state.peer.find(id).is_some() {
+        return Err(Problem::DUPLICATE_INVOCATION);
+    }
+    let mut parent = None;
+    if let Some(linked) = linked {
+        let at = state.own.find(linked).ok_or(Problem::UNRECOGNIZED_LINKED_ID)?;
+        parent = table.operation(state.own.places[at].code);
+        if !parent.is_some_and(|parent| table.has_children(&parent)) {
+            return Err(Problem::LINKED_RESPONSE_UNEXPECTED);
+        }
+    }
+    let operation = code.local().and_then(|code| table.operation(code));
+    let operation = operation.ok_or(Problem::UNRECOGNIZED_OPERATION)?;
+    if !operation.argument.allows(value) {
+        return Err(Problem::MISTYPED_ARGUMENT);
+    }
+    if parent.is_some_and(|parent| !table.lists_child(&parent, &operation)) {
+        return Err(Problem::UNEXPECTED_LINKED_OPERATION);
+    }
+    if operation.class != 5 {
+        if state.peer.is_full() {
+            return Err(Problem::RESOURCE_LIMITATION);
+        }
+        state.peer.add(id, operation.code);
+    }
+    Ok(Indication::Invoke { id, linked, code: operation.code, value })
+}
+
+fn receive_result<'a>(
+    table: &Table,
+    state: &mut State,
+    id: i32,
+    returned: Option<(Code, &'a [u8])>,
+) -> Result<Indication<'a>, Problem> {
+    let at = state.own.find(id).ok_or(Problem::RESULT_UNRECOGNIZED_INVOCATION)?;
+    let operation = table
+        .operation(state.own.places[at].code)
+        .filter(|operation| !matches!(operation.class, 3 | 5))
+        .ok_or(Problem::RESULT_RESPONSE_UNEXPECTED)?;
+    if returned.is_some_and(|(code, _)| code != Code::Local(operation.code)) {
+        return Err(Problem::RESULT_UNRECOGNIZED_INVOCATION);
+    }
+    let value = returned.map(|(_, value)| value);
+    if !operation.result.allows(value) {
+        return Err(Problem::MISTYPED_RESULT);
+    }
+    state.own.retire(at);
+    Ok(match value {
+        Some(value) => Indication::Result { id, code: operation.code, value, operation: operation.code },
+        None => Indication::AbsentResult { id, operation: operation.code },
+    })
+}
+
+fn receive_error<'a>(
+    table: &Table,
+    state: &mut State,
+    id: i32,
+    code: Code,
+    value: Option<&'a [u8]>,
+) -> Result<Indication<'a>, Problem> {
+    let at = state.own.find(id).ok_or(Problem::ERROR_UNRECOGNIZED_INVOCATION)?;
+    let operation = table
+        .operation(state.own.places[at].code)
+        .filter(|operation| !matches!(operation.class, 4 | 5))
+        .ok_or(Problem::ERROR_RESPONSE_UNEXPECTED)?;
+    let error = code.local().and_then(|code| table.error(code)).ok_or(Problem::UNRECOGNIZED_ERROR)?;
+    if !table.lists_error(&operation, &error) {
+        return Err(Problem::UNEXPECTED_ERROR);
+    }
+    if !error.parameter.allows(value) {
+        return Err(Problem::MISTYPED_PARAMETER);
+    }
+    state.own.retire(at);
+    Ok(Indication::Error { id, code: error.code, value, operation: operation.code })
+}
+
+fn receive_reject<'a>(state: &mut State, id: Option<i32>, problem: Problem) -> Indication<'a> {
+    let Some(id) = id.filter(|_| !matches!(problem, Problem::General(_))) else {
+        return Indication::ProviderReject { id, problem };
+    };
+    if let (Problem::Invoke(_), Some(at)) = (problem, state.own.find(id)) {
+        state.own.retire(at);
+    }
+    Indication::UserReject { id, problem }
+}
+
+/// Asks for an operation; gives how many octets of the APDU were written. An empty value is none.
+pub fn request_invoke(
+    table: &[u8],
+    state: &mut State,
+    (id, linked, code): (i32, Option<i32>, i32),
+    value: &[u8],
+    output: &mut [u8],
+) -> Result<usize, Refusal> {
+    let table = open(table, state)?;
+    let operation = table.operation(code).ok_or(Refusal::UnknownOperation)?;
+    if state.own.find(id).is_some() {
+        return Err(Refusal::IdInUse);
+    }
+    let class = |code| table.operation(code).map(|operation| operation.class);
+    if state.own.live().iter().any(|record| class(record.code) == Some(1)) {
+        return Err(Refusal::SynchronousInvocationLive);
+    }
+    if let Some(linked) = linked {
+        let at = state.peer.find(linked).ok_or(Refusal::UnknownLinkedId)?;
+        let parent = table.operation(state.peer.places[at].code);
+        if !parent.is_some_and(|parent| table.lists_child(&parent, &operation)) {
+            return Err(Refusal::NotAChild);
+        }
+    }
+    let levels = value_levels(value, operation.argument)?;
+    if operation.class != 5 && state.own.is_full() {
+        return Err(Refusal::OwnRecordsFull);
+    }
+    let written = write(Outgoing::Invoke { id, linked, code, value }, levels, output)?;
+    if operation.class != 5 {
+        state.own.add(id, code);
+    }
+    Ok(written)
+}
+
+/// Answers a peer's invocation with a result, or with an absent result if the value is empty.
+pub fn request_result(
+    table: &[u8],
+    state: &mut State,
+    id: i32,
+    value: &[u8],
+    output: &mut [u8],
+) -> Result<usize, Refusal> {
+    let table = open(table, state)?;
+    let at = state.peer.find(id).ok_or(Refusal::NoSuchRecord)?;
+    let operation = table
+        .operation(state.peer.places[at].code)
+        .filter(|operation| !matches!(operation.class, 3 | 5))
+        .ok_or(Refusal::ClassForbids)?;
+    let levels = value_levels(value, operation.result)?;
+    let written = write(Outgoing::Result { id, code: operation.code, value }, levels, output)?;
+    state.peer.retire(at);
+    Ok(written)
+}
+
+/// Answers a peer's invocation with an error.
+pub fn request_error(
+    table: &[u8],
+    state: &mut State,
+    (id, code): (i32, i32),
+    value: &[u8],
+    output: &mut [u8],
+) -> Result<usize, Refusal> {
+    let table = open(table, state)?;
+    let at = state.peer.find(id).ok_or(Refusal::NoSuchRecord)?;
+    let operation = table
+        .operation(state.peer.places[at].code)
+        .filter(|operation| !matches!(operation.class, 4 | 5))
+        .ok_or(Refusal::ClassForbids)?;
+    let error = table.error(code).filter(|error| table.lists_error(&operation, error)).ok_or(Refusal::UnlistedError)?;
+    let levels = value_levels(value, error.parameter)?;
+    let written = write(Outgoing::Error { id, code, value }, levels, output)?;
+    state.peer.retire(at);
+    Ok(written)
+}
+
+/// Rejects a peer's invocation with invoke problem 2, 3 or 4.
+pub fn request_reject(
+    table: &[u8],
+    state: &mut State,
+    (id, problem): (i32, u8),
+    output: &mut [u8],
+) -> Result<usize, Refusal> {
+    open(table, state)?;
+    if !matches!(problem, 2..=4) {
+        return Err(Refusal::NoUserProblem);
+    }
+    let at = state.peer.find(id).ok_or(Refusal::NoSuchRecord)?;
+    let written = write(Outgoing::Reject { id: Some(id), problem: Problem::Invoke(problem) }, 0, output)?;
+    state.peer.retire(at);
+    Ok(written)
+}
+
+/// Retires an own record, or a peer record whose class is neither 1 nor 2.
+pub fn forget(table: &[u8], state: &mut State, invocation: Invocation) -> Result<(), Refusal> {
+    let table = open(table, state)?;
+    let (side, id) = match invocation {
+        Invocation::Own(id) => (&mut state.own, id),
+        Invocation::Peer(id) => (&mut state.peer, id),
+    };
+    let at = side.find(id).ok_or(Refusal::NoSuchRecord)?;
+    let awaited = table.operation(side.places[at].code).is_some_and(|operation| matches!(operation.class, 1 | 2));
+    if awaited && matches!(invocation, Invocation::Peer(_)) {
+        return Err(Refusal::ClassForbids);
+    }
+    side.retire(at);
+    Ok(())
+}
+
+/// How many levels a value to send has, 0 for none; 9, then 10.
+fn value_levels(value: &[u8], rule: Rule) -> Result<usize, Refusal> {
+    let given = (!value.is_empty()).then_some(value);
+    let levels = match given {
+        Some(value) => octets::levels(value, State::LEVELS).ok_or(Refusal::MalformedValue)?,
+        None => 0,
+    };
+    if rule.allows(given) {
+        Ok(levels)
+    } else {
+        Err(Refusal::ValueRuleBroken)
+    }
+}
+
+/// Writes an APDU whose value has so many levels; 15, then 2.
+fn write(apdu: Outgoing<'_>, levels: usize, output: &mut [u8]) -> Result<usize, Refusal> {
+    let octets = apdu.octets();
+    if octets > State::OCTETS || apdu.levels(levels) > State::LEVELS {
+        return Err(Refusal::ApduTooLarge);
+    }
+    if output.len() < octets {
+        return Err(Refusal::ShortOutput);
+    }
+    Ok(apdu.write(output))
+}

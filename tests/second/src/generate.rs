@@ -1,0 +1,247 @@
+//! Scripts from a seed: episodes of calls that fit the state reached, with faults, limits and damage among them.
+//! The calls themselves are made in `requests`, `arrivals`, `limits` and `oddities`.
+
+use crate::drive::{Answer, Drive, Step};
+use crate::frame::{self, Frame};
+use crate::model::Model;
+use crate::random::Random;
+use crate::state::{Record, Side, State};
+
+/// A call as it was made, for coverage.
+pub struct Seen<'a> {
+    pub table: &'a [u8],
+    pub before: &'a State,
+    pub frame: &'a Frame<'a>,
+    pub answer: &'a Answer<'a>,
+    pub written: &'a [u8],
+    pub label: Option<Label>,
+    /// The state is the one the call before left.
+    pub follows: bool,
+}
+
+/// What a call was made to show: a group of cases and one of their names.
+pub type Label = (Group, &'static str);
+
+#[derive(Clone, Copy, Debug, PartialEq, Eq)]
+pub enum Group {
+    InvalidTable,
+    UnsoundState,
+    MalformedReceived,
+    MalformedValue,
+    WellFormedReceived,
+    WellFormedValue,
+    MistypedWithId,
+    MistypedWithoutId,
+    Unrecognized,
+    UnacceptableReject,
+    AcceptableReject,
+    Damaged,
+}
+
+type Watch<'w> = dyn FnMut(&Seen<'_>) + 'w;
+
+pub struct Generator<'w> {
+    pub(crate) random: Random,
+    pub(crate) drive: Drive,
+    /// The table in force unless an invalid one stands in for a few calls.
+    pub(crate) model: Model,
+    pub(crate) label: Option<Label>,
+    /// What the last call wrote.
+    pub(crate) written: Vec<u8>,
+    /// How many times in a hundred to do a thing wrong.
+    pub(crate) trouble: usize,
+    script: Vec<u8>,
+    left: usize,
+    follows: bool,
+    /// Where each list of named cases is gone on with.
+    pub(crate) turns: [usize; 3],
+    watch: Option<&'w mut Watch<'w>>,
+}
+
+/// The script of a seed with so many calls.
+pub fn script(seed: u64, calls: usize) -> Vec<u8> {
+    Generator::new(seed, calls, None).run()
+}
+
+/// Shows every call of a script.
+pub fn watch<'w>(seed: u64, calls: usize, watch: &'w mut Watch<'w>) {
+    Generator::new(seed, calls, Some(watch)).run();
+}
+
+impl<'w> Generator<'w> {
+    fn new(seed: u64, calls: usize, watch: Option<&'w mut Watch<'w>>) -> Self {
+        let mut random = Random::new(seed);
+        Generator {
+            turns: [0; 3].map(|_| random.below(1000)),
+            random,
+            drive: Drive::default(),
+            model: Model::default(),
+            label: None,
+            written: Vec::new(),
+            script: Vec::new(),
+            left: calls,
+            trouble: 0,
+            follows: false,
+            watch,
+        }
+    }
+
+    fn run(mut self) -> Vec<u8> {
+        while self.left > 0 {
+            match self.random.below(100) {
+                0..=8 => self.invalid_table(),
+                9..=11 => self.unsound_state(),
+                12..=35 => self.limit(),
+                36..=66 => self.named_arrival(),
+                67..=84 => self.named_value(),
+                _ => self.episode(),
+            }
+        }
+        self.end();
+        self.script
+    }
+
+    /// Makes a call, unless the script has all its calls.
+    pub(crate) fn call(&mut self, frame: Frame<'_>) {
+        let label = self.label.take();
+        if self.left == 0 {
+            return;
+        }
+        self.left -= 1;
+        frame.append(&mut self.script);
+        let before = self.watch.is_some().then(|| self.drive.state.clone());
+        let Step::Called(answer) = self.drive.step(&frame) else { return };
+        self.written.clear();
+        self.written.extend(self.drive.output(answer.written()));
+        if let (Some(watch), Some(before)) = (&mut self.watch, before) {
+            let (table, written, follows) = (&self.drive.table[..], &self.written[..], self.follows);
+            watch(&Seen { table, before: &before, frame: &frame, answer: &answer, written, label, follows });
+        }
+        self.follows = true;
+    }
+
+    pub(crate) fn set(&mut self, kind: u8, payload: &[u8]) {
+        let frame = Frame { kind, payload, ..Frame::default() };
+        frame.append(&mut self.script);
+        self.drive.step(&frame);
+        self.follows = false;
+    }
+
+    pub(crate) fn set_model(&mut self, model: Model) {
+        self.set(frame::TABLE, &model.octets());
+        self.model = model;
+    }
+
+    pub(crate) fn set_state(&mut self, state: &State) {
+        self.set(frame::STATE, &frame::image(state));
+    }
+
+    /// Whether to do the next thing wrong.
+    pub(crate) fn fault(&mut self) -> bool {
+        self.trouble > 0 && self.random.percent(self.trouble)
+    }
+
+    /// A few calls that fit the state reached, most of them right, some wrong in one way, some in many.
+    fn episode(&mut self) {
+        self.set_table_and_state();
+        for _ in 0..self.random.between(6, 26) {
+            self.trouble = [0, 0, 0, 0, 0, 12, 20, 30, 50, 50][self.random.below(10)];
+            self.ordinary_call();
+        }
+        self.trouble = 0;
+    }
+
+    fn set_table_and_state(&mut self) {
+        match self.random.below(10) {
+            0 => {
+                let model = self.model.extended(&mut self.random);
+                if model.error_pairs.len() <= 256 && model.child_pairs.len() <= 256 && model.operations.len() <= 64 {
+                    self.set_model(model);
+                }
+            }
+            1 => self.set_state(&State::fresh()),
+            2 => self.set(frame::STATE, &[0xFF; 515]),
+            _ => {
+                let model = Model::random(&mut self.random);
+                self.set_model(model);
+                let state = self.random_state();
+                self.set_state(&state);
+            }
+        }
+    }
+
+    /// A sound state whose codes are in the table, few of the own ones synchronous.
+    pub(crate) fn random_state(&mut self) -> State {
+        let mut state = State::fresh();
+        if self.random.percent(30) {
+            return state;
+        }
+        for own in [true, false] {
+            let count = match self.random.below(12) {
+                0 => 31,
+                1 => 32,
+                _ => self.random.below(7),
+            };
+            let blocking = self.random.percent(20);
+            let model = &self.model;
+            let side = if own { &mut state.own } else { &mut state.peer };
+            fill(&mut self.random, side, count, |random| {
+                random.pick_where(&model.operations, |row| !own || blocking || row.class != 1).map(|row| row.code)
+            });
+        }
+        state
+    }
+
+    /// Behind the last call: a frame that ends the run before another call, a frame cut short, or nothing.
+    fn end(&mut self) {
+        let forget = Frame { kind: frame::FORGET, ..Frame::default() };
+        match self.random.below(3) {
+            0 => {
+                Frame { kind: 8 + self.random.octet() % 248, ..Frame::default() }.append(&mut self.script);
+                forget.append(&mut self.script);
+            }
+            1 => {
+                Frame { payload: &[0; 40], ..forget }.append(&mut self.script);
+                self.script.truncate(self.script.len() - self.random.between(1, 57));
+            }
+            _ => {}
+        }
+    }
+}
+
+/// Adds records with new ids until the side has so many.
+pub(crate) fn fill(
+    random: &mut Random,
+    side: &mut Side,
+    count: usize,
+    mut code: impl FnMut(&mut Random) -> Option<i32>,
+) {
+    while usize::from(side.count) < count {
+        let Some(code) = code(random) else { return };
+        let id = free_id(random, side);
+        side.add(id, code);
+    }
+}
+
+/// An id that no live record of the side has.
+pub(crate) fn free_id(random: &mut Random, side: &Side) -> i32 {
+    loop {
+        let id = random.number();
+        if side.find(id).is_none() {
+            return id;
+        }
+    }
+}
+
+/// A live record of the side, if there is one.
+pub(crate) fn live(random: &mut Random, side: &Side) -> Option<Record> {
+    random.pick(side.live())
+}
+
+pub(crate) fn side(state: &State, own: bool) -> &Side {
+    if own {
+        &state.own
+    } else {
+        &state.peer
+    }
+}

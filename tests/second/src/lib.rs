@@ -1,0 +1,28 @@
+//! Remote operations of X.219, X.229 and X.880 as fixed in document 01: the engine of one end of an
+//! association (`engine`), a script player (`drive`), a script generator (`generate`) and checks that run on them.
+
+pub mod answer;
+pub mod apdu;
+pub mod drive;
+pub mod engine;
+pub mod frame;
+pub mod octets;
+pub mod state;
+pub mod table;
+
+mod arrivals;
+pub mod book;
+pub mod cases;
+pub mod compare;
+pub mod coverage;
+pub mod ends;
+pub mod faults;
+pub mod generate;
+mod limits;
+pub mod model;
+mod observe;
+mod oddities;
+pub mod random;
+mod requests;
+mod show;
+pub mod values;

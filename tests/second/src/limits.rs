@@ -1,0 +1,208 @@
+//! The generator's calls at, just below and just above each limit of document 01.
+
+use crate::apdu::Outgoing;
+use crate::frame::{self, Frame};
+use crate::generate::{fill, free_id, side, Generator};
+use crate::model::{ErrorRow, Model, OperationRow};
+use crate::random::Random;
+use crate::state::State;
+use crate::values::{self, element, integer_contents};
+
+/// What a value at the limit lies in.
+#[derive(Clone, Copy, PartialEq, Eq)]
+enum Place {
+    Invoke,
+    Result,
+    Error,
+}
+
+impl Generator<'_> {
+    pub(crate) fn limit(&mut self) {
+        match self.random.below(10) {
+            0..=2 => self.received_value_limit(),
+            3..=6 => self.sent_value_limit(),
+            7..=8 => self.record_limit(),
+            _ => self.table_limit(),
+        }
+    }
+
+    /// A table with one operation of class 2, one of class 5 and one error, all values of one type and all optional;
+    /// a state with one record of the first on each side. Gives id, operation code and error code.
+    fn set_plain(&mut self, kind: u8) -> (i32, i32, i32) {
+        let code = self.random.number() >> 1;
+        let row = OperationRow { code, class: 2, argument: kind, result: kind, flags: 3 };
+        let silent = OperationRow { code: code + 1, class: 5, argument: kind, result: 0, flags: 1 };
+        let error = ErrorRow { code: self.random.number(), parameter: kind, optional: 1 };
+        self.set_model(Model {
+            operations: vec![row, silent],
+            errors: vec![error],
+            error_pairs: vec![(0, 0)],
+            child_pairs: vec![(0, 0), (0, 1)],
+        });
+        let id = self.random.number();
+        let mut state = State::fresh();
+        state.own.add(id, code);
+        state.peer.add(id, code);
+        self.set_state(&state);
+        (id, code, error.code)
+    }
+
+    fn place(&mut self) -> Place {
+        [Place::Invoke, Place::Result, Place::Error][self.random.below(3)]
+    }
+
+    /// Received octets and levels: one below, at and above the limit.
+    fn received_value_limit(&mut self) {
+        let (id, code, error) = self.set_plain(0x30);
+        let place = self.place();
+        let id = if place == Place::Invoke { free_id(&mut self.random, &self.drive.state.peer) } else { id };
+        let wrap = |value: &[u8]| wrapped(place, id, if place == Place::Error { error } else { code }, value);
+        let apdu = if self.random.percent(50) {
+            let around = wrap(&vec![0; 4000]).len() - 4000;
+            let octets = self.random.between(4095, 4097) - around;
+            wrap(&values::sized(0x30, octets).unwrap_or_default())
+        } else {
+            let around = if place == Place::Result { 2 } else { 1 };
+            let levels = self.random.between(15, 17) - around;
+            wrap(&values::deep(0x30, levels, self.random.percent(50)))
+        };
+        let lent = [10, 11, 11, 11, 11, 12][self.random.below(6)];
+        self.call(Frame { kind: frame::RECEIVE, lent, payload: &apdu, ..Frame::default() });
+    }
+
+    /// Receives a value of the right type in an Invoke, a Result or an Error that is right otherwise.
+    pub(crate) fn receive_value(&mut self, value: &[u8]) {
+        let (id, code, error) = self.set_plain(type_of(value));
+        let place = self.place();
+        let id = if place == Place::Invoke { free_id(&mut self.random, &self.drive.state.peer) } else { id };
+        let payload = wrapped(place, id, if place == Place::Error { error } else { code }, value);
+        self.call(Frame { kind: frame::RECEIVE, lent: 11, payload: &payload, ..Frame::default() });
+    }
+
+    /// Sends a value of the right type in a request that is right otherwise.
+    pub(crate) fn send_value(&mut self, value: &[u8]) {
+        let plain = self.set_plain(type_of(value));
+        let place = self.place();
+        self.send(place, plain, |_, _| value.to_vec());
+    }
+
+    /// Sent octets and levels: one below, at and above the limit, and values that are too large themselves.
+    fn sent_value_limit(&mut self) {
+        let plain = self.set_plain(0x30);
+        let place = self.place();
+        if place == Place::Invoke && self.random.percent(15) {
+            let mut state = self.drive.state.clone();
+            fill(&mut self.random, &mut state.own, State::RECORDS, |_| Some(plain.1));
+            self.set_state(&state);
+        }
+        let around_levels = if place == Place::Result { 2 } else { 1 };
+        self.send(place, plain, |random, around| match random.below(20) {
+            0..=8 => values::sized(0x30, random.between(4095, 4097) - around).unwrap_or_default(),
+            9 => values::sized(0x30, random.between(4097, 6000)).unwrap_or_default(),
+            10..=17 => values::deep(0x30, random.between(15, 17) - around_levels, random.percent(50)),
+            _ => values::deep(0x30, random.between(16, 17), random.percent(50)),
+        });
+    }
+
+    /// A request with the value made for so many octets around it.
+    fn send(
+        &mut self,
+        place: Place,
+        (own, code, error): (i32, i32, i32),
+        value: impl FnOnce(&mut Random, usize) -> Vec<u8>,
+    ) {
+        let id = if place == Place::Invoke { free_id(&mut self.random, &self.drive.state.own) } else { own };
+        let linked = (place == Place::Invoke && self.random.percent(30)).then_some(own);
+        let outgoing = |value| match place {
+            Place::Invoke => Outgoing::Invoke { id, linked, code, value },
+            Place::Result => Outgoing::Result { id, code, value },
+            Place::Error => Outgoing::Error { id, code: error, value },
+        };
+        let value = value(&mut self.random, outgoing(&[0; 4000]).octets() - 4000);
+        let needed = outgoing(&value).octets();
+        let lent = [needed, needed, needed + 1, needed - 1, needed + 40][self.random.below(5)] as u16;
+        let (kind, code) = match place {
+            Place::Invoke => (frame::INVOKE, code),
+            Place::Result => (frame::RESULT, 0),
+            Place::Error => (frame::ERROR, error),
+        };
+        let detail = u8::from(linked.is_some());
+        self.call(Frame { kind, detail, lent, id, code, linked: linked.unwrap_or(0), payload: &value });
+    }
+
+    /// 31 and 32 records on a side, then a new invocation of class 2 or 5, then one record less.
+    fn record_limit(&mut self) {
+        let (_, code, _) = self.set_plain(0x30);
+        let own = self.random.percent(50);
+        let mut state = State::fresh();
+        let filled = if own { &mut state.own } else { &mut state.peer };
+        let count = self.random.between(30, 32);
+        fill(&mut self.random, filled, count, |_| Some(code));
+        let retired = filled.places[self.random.below(count)].id;
+        self.set_state(&state);
+        for _ in 0..self.random.between(1, 3) {
+            let code = code + i32::from(self.random.percent(30));
+            let id = free_id(&mut self.random, side(&self.drive.state, own));
+            let short = self.random.percent(10);
+            if own {
+                let lent = if short { 3 } else { 40 };
+                self.call(Frame { kind: frame::INVOKE, lent, id, code, ..Frame::default() });
+            } else {
+                let payload = wrapped(Place::Invoke, id, code, &[]);
+                self.call(Frame { kind: frame::RECEIVE, lent: 11, payload: &payload, ..Frame::default() });
+            }
+        }
+        if own {
+            self.call(Frame { kind: frame::FORGET, id: retired, ..Frame::default() });
+        } else {
+            self.call(Frame { kind: frame::RESULT, lent: 40, id: retired, ..Frame::default() });
+        }
+        self.ordinary_call();
+    }
+
+    /// Full tables, and tables with one entry less in one part; one entry more is an invalid table.
+    fn table_limit(&mut self) {
+        let mut model = Model::full(&mut self.random);
+        match self.random.below(6) {
+            0 => {
+                model.operations.pop();
+                let kept = model.operations.len() as u16;
+                model.error_pairs.retain(|pair| pair.0 < kept);
+                model.child_pairs.retain(|pair| pair.0 < kept && pair.1 < kept);
+            }
+            1 => {
+                model.errors.pop();
+                let kept = model.errors.len() as u16;
+                model.error_pairs.retain(|pair| pair.1 < kept);
+            }
+            2 => drop(model.error_pairs.remove(self.random.below(256))),
+            3 => drop(model.child_pairs.remove(self.random.below(256))),
+            _ => {}
+        }
+        self.set_model(model);
+        let state = self.random_state();
+        self.set_state(&state);
+        for _ in 0..self.random.between(2, 5) {
+            self.ordinary_call();
+        }
+    }
+}
+
+/// An APDU with shortest lengths around a value, or none if it is empty.
+fn wrapped(place: Place, id: i32, code: i32, value: &[u8]) -> Vec<u8> {
+    let [id, code] = [id, code].map(|number| element(0x02, &integer_contents(number)));
+    match place {
+        Place::Invoke => element(0xA1, &[&id, &code, value].concat()),
+        Place::Result => element(0xA2, &[id, element(0x30, &[&code, value].concat())].concat()),
+        Place::Error => element(0xA3, &[&id, &code, value].concat()),
+    }
+}
+
+/// The first octet as the type in a table, or 30 if it cannot be one.
+fn type_of(value: &[u8]) -> u8 {
+    match value[0] {
+        0 => 0x30,
+        kind if kind & 0x1F == 0x1F => 0x30,
+        kind => kind,
+    }
+}

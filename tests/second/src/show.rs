@@ -1,0 +1,91 @@
+//! A table, a state and a frame decoded for a reader.
+
+use crate::frame::{self, Frame};
+use crate::octets;
+use crate::state::{Record, Side, State};
+use crate::table::{Rule, Table};
+
+pub fn hex(octets: &[u8]) -> String {
+    let digits: Vec<String> = octets.iter().map(|octet| format!("{octet:02X}")).collect();
+    if digits.is_empty() {
+        "none".to_string()
+    } else {
+        digits.join(" ")
+    }
+}
+
+pub fn table(octets: &[u8]) -> String {
+    let valid = if Table::new(octets).is_some() { "valid" } else { "not valid" };
+    let mut text = format!("table, {} octets, {valid}\n", octets.len());
+    let Some(parts) = Table::parts(octets) else { return text + &format!("  {}\n", hex(octets)) };
+    for row in parts.operations() {
+        let (argument, result) = (rule(row.argument), rule(row.result));
+        text += &format!("  operation {} code {} class {}", row.index, row.code, row.class);
+        text += &format!(" argument {argument} result {result}\n");
+    }
+    for row in parts.errors() {
+        text += &format!("  error {} code {} parameter {}\n", row.index, row.code, rule(row.parameter));
+    }
+    let pairs = |pairs: Vec<(usize, usize)>| pairs.iter().map(|(a, b)| format!(" {a}-{b}")).collect::<String>();
+    text += &format!("  error pairs{}\n", pairs(parts.error_pairs().collect()));
+    text += &format!("  child pairs{}\n", pairs(parts.child_pairs().collect()));
+    text
+}
+
+fn rule(rule: Rule) -> String {
+    match (rule.kind, rule.optional) {
+        (0, false) => "none".to_string(),
+        (kind, optional) => format!("{kind:02X}{}", if optional { " optional" } else { "" }),
+    }
+}
+
+pub fn state(state: &State) -> String {
+    let sound = if state.is_sound() { "sound" } else { "not sound" };
+    format!("state, {sound}\n{}{}", side("own", &state.own), side("peer", &state.peer))
+}
+
+fn side(name: &str, side: &Side) -> String {
+    let mut text = format!("  {name} count {}", side.count);
+    let used = side.places.iter().rposition(|&place| place != Record::default()).map_or(0, |last| last + 1);
+    for (at, record) in side.places[..used.max(side.live().len())].iter().enumerate() {
+        let unused = if at < usize::from(side.count) { "" } else { " (behind the count)" };
+        text += &format!(", {} is operation {}{unused}", record.id, record.code);
+    }
+    text + "\n"
+}
+
+pub fn frame(frame: &Frame<'_>) -> String {
+    let Frame { kind, detail, lent, id, code, linked, payload } = *frame;
+    let what = match kind {
+        frame::RECEIVE => "receive".to_string(),
+        frame::INVOKE if detail == 1 => format!("request invoke {id} of operation {code} linked to {linked}"),
+        frame::INVOKE => format!("request invoke {id} of operation {code}"),
+        frame::RESULT => format!("request result of {id}"),
+        frame::ERROR => format!("request error {code} of {id}"),
+        frame::REJECT => format!("request user reject of {id} with problem {detail}"),
+        frame::FORGET => format!("forget {} {id}", if detail == 0 { "own" } else { "peer" }),
+        other => format!("frame of kind {other}"),
+    };
+    let mut text = format!("{what}, {lent} octets lent, {} given\n", payload.len());
+    elements(&mut text, payload, 1);
+    text
+}
+
+/// The elements one under another, as far as they can be read.
+fn elements(text: &mut String, mut octets: &[u8], level: usize) {
+    while !octets.is_empty() {
+        let margin = "  ".repeat(level.min(20));
+        let Some((element, rest)) = octets::split(octets) else {
+            *text += &format!("{margin}no element: {}\n", hex(octets));
+            return;
+        };
+        let header = hex(&element.whole[..element.whole.len() - element.contents.len()]);
+        if element.identifier() & 0x20 != 0 {
+            *text += &format!("{margin}{header}\n");
+            elements(text, element.contents, level + 1);
+        } else {
+            *text += &format!("{margin}{header} : {}\n", hex(element.contents));
+        }
+        octets = rest;
+    }
+}

@@ -1,0 +1,88 @@
+//! The records of open invocations on both sides and when they are sound.
+//! Follows document 01, "Records" and the limits of "What is built".
+
+/// An open invocation.
+#[derive(Clone, Copy, Debug, Default, PartialEq, Eq)]
+pub struct Record {
+    pub id: i32,
+    pub code: i32,
+}
+
+/// The records of one side: `count` live ones, then unused places of 0, 0.
+#[derive(Clone, Debug, PartialEq, Eq)]
+pub struct Side {
+    pub count: u16,
+    pub places: [Record; State::RECORDS],
+}
+
+/// Own records are invocations this end made, peer records those it received.
+#[derive(Clone, Debug, PartialEq, Eq)]
+pub struct State {
+    pub own: Side,
+    pub peer: Side,
+}
+
+impl State {
+    pub const OCTETS: usize = 4096;
+    pub const LEVELS: usize = 16;
+    pub const RECORDS: usize = 32;
+
+    pub fn fresh() -> State {
+        State { own: Side::empty(), peer: Side::empty() }
+    }
+
+    pub fn is_sound(&self) -> bool {
+        self.own.is_sound() && self.peer.is_sound()
+    }
+}
+
+impl Side {
+    pub fn empty() -> Side {
+        Side { count: 0, places: [Record::default(); State::RECORDS] }
+    }
+
+    /// The records below the count, at most all places.
+    #[inline]
+    pub fn live(&self) -> &[Record] {
+        &self.places[..usize::from(self.count).min(State::RECORDS)]
+    }
+
+    pub fn is_full(&self) -> bool {
+        usize::from(self.count) >= State::RECORDS
+    }
+
+    pub fn is_sound(&self) -> bool {
+        let count = usize::from(self.count);
+        count <= State::RECORDS
+            && self.places[count..].iter().fold(0, |rubbish, place| rubbish | place.id | place.code) == 0
+            && !self.repeats_an_id()
+    }
+
+    fn repeats_an_id(&self) -> bool {
+        let live = self.live();
+        (1..live.len()).any(|at| {
+            // No early end: the compiler then compares several places at once.
+            live[..at].iter().fold(false, |found, record| found | (record.id == live[at].id))
+        })
+    }
+
+    /// The place of the record with this id.
+    #[inline]
+    pub fn find(&self, id: i32) -> Option<usize> {
+        self.live().iter().position(|record| record.id == id)
+    }
+
+    /// A new record goes last; the side is not full.
+    pub fn add(&mut self, id: i32, code: i32) {
+        self.places[usize::from(self.count)] = Record { id, code };
+        self.count += 1;
+    }
+
+    /// Closes the gap, order kept, and leaves 0, 0 in the place that became unused.
+    pub fn retire(&mut self, at: usize) {
+        let last = usize::from(self.count) - 1;
+        self.places.copy_within(at + 1..=last, at);
+        self.places[last] = Record::default();
+        self.count -= 1;
+    }
+}

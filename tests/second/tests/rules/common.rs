@@ -1,0 +1,95 @@
+//! Calls and answers in words, so that a case is one line.
+
+use second::answer::Refusal;
+use second::drive::{Answer, Drive, Step};
+use second::frame::{self, Frame};
+use second::model::{ErrorRow, Model, OperationRow};
+use second::state::State;
+
+/// A state and a call in words with the answer as the drive protocol writes it.
+pub struct Case<'a> {
+    pub own: &'a [(i32, i32)],
+    pub peer: &'a [(i32, i32)],
+    pub call: &'a str,
+    pub answer: &'a str,
+}
+
+pub fn hex(text: &str) -> Vec<u8> {
+    let digits: Vec<u32> = text.chars().filter_map(|digit| digit.to_digit(16)).collect();
+    digits.chunks(2).map(|pair| (pair[0] * 16 + pair[1]) as u8).collect()
+}
+
+pub fn state(own: &[(i32, i32)], peer: &[(i32, i32)]) -> State {
+    let mut state = State::fresh();
+    own.iter().for_each(|&(id, code)| state.own.add(id, code));
+    peer.iter().for_each(|&(id, code)| state.peer.add(id, code));
+    state
+}
+
+/// Operations (code, class, argument, result, flags), errors (code, parameter, optional) and pairs of indexes.
+pub fn model(
+    operations: &[(i32, u8, u8, u8, u8)],
+    errors: &[(i32, u8, u8)],
+    error_pairs: &[(u16, u16)],
+    child_pairs: &[(u16, u16)],
+) -> Model {
+    let operation = |&(code, class, argument, result, flags): &_| OperationRow { code, class, argument, result, flags };
+    let error = |&(code, parameter, optional): &_| ErrorRow { code, parameter, optional };
+    Model {
+        operations: operations.iter().map(operation).collect(),
+        errors: errors.iter().map(error).collect(),
+        error_pairs: error_pairs.to_vec(),
+        child_pairs: child_pairs.to_vec(),
+    }
+}
+
+/// Plays a call in words: `receive HEX`, `invoke ID CODE HEX`, `linked ID LINKED CODE HEX`, `result ID HEX`,
+/// `error ID CODE HEX`, `reject ID PROBLEM`, `own ID`, `peer ID`; `@N` in front lends N octets. Gives the line.
+pub fn play(table: &[u8], state: &State, call: &str) -> String {
+    let mut words: Vec<&str> = call.split_whitespace().collect();
+    let mut frame = Frame { lent: 5000, ..Frame::default() };
+    if let Some(lent) = words[0].strip_prefix('@') {
+        frame.lent = lent.parse().unwrap();
+        words.remove(0);
+    }
+    let number = |at: usize| words[at].parse::<i32>().unwrap();
+    let fields = match words[0] {
+        "receive" => 0,
+        "reject" | "error" | "invoke" => 2,
+        "linked" => 3,
+        _ => 1,
+    };
+    let payload = hex(&words[1 + fields..].join(""));
+    frame.payload = &payload;
+    frame.id = if fields > 0 { number(1) } else { 0 };
+    match words[0] {
+        "receive" => frame.kind = frame::RECEIVE,
+        "invoke" => (frame.kind, frame.code) = (frame::INVOKE, number(2)),
+        "linked" => (frame.kind, frame.detail, frame.linked, frame.code) = (frame::INVOKE, 1, number(2), number(3)),
+        "result" => frame.kind = frame::RESULT,
+        "error" => (frame.kind, frame.code) = (frame::ERROR, number(2)),
+        "reject" => (frame.kind, frame.detail) = (frame::REJECT, number(2) as u8),
+        "own" => (frame.kind, frame.detail) = (frame::FORGET, 0),
+        "peer" => (frame.kind, frame.detail) = (frame::FORGET, 1),
+        other => panic!("{other} is no call"),
+    }
+    let mut drive = Drive::new(table.to_vec(), state.clone());
+    let Step::Called(answer) = drive.step(&frame) else { panic!("{call} is no call") };
+    if let Answer::Refused(refusal) = answer {
+        assert_eq!(&drive.state, state, "{call} was refused and changed the records");
+        assert_eq!(answer.written() > 0, matches!(refusal, Refusal::Rejected { .. }), "{call}");
+    }
+    let mut line = Vec::new();
+    drive.line(&answer, frame.lent, &mut line);
+    String::from_utf8(line).unwrap().trim_end().to_string()
+}
+
+/// Checks that each case's line starts with its answer (whole words) and spoils nothing.
+pub fn check(table: &[u8], cases: &[Case]) {
+    for Case { own, peer, call, answer } in cases {
+        let line = play(table, &state(own, peer), call);
+        let whole = line.strip_prefix(answer).is_some_and(|rest| rest.is_empty() || rest.starts_with(' '));
+        assert!(whole, "{call} with own {own:?} peer {peer:?}\n  wanted {answer}\n  was    {line}");
+        assert!(!line.ends_with("spoiled"), "{call}: {line}");
+    }
+}
