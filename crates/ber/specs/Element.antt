@@ -65,6 +65,11 @@ fills n none = false
 unfoldable pub wellFormed : ℕ → List ℕ → Bool
 wellFormed d s = fills (length s) (size d s)
 
+-- a value is a whole element; a given value is empty for none
+unfoldable pub given : List ℕ → Option (List ℕ)
+given [] = none
+given (b ∷ v) = some (b ∷ v)
+
 -- an outgoing element: identifier, shortest length, contents
 unfoldable pub elementOctets : ℕ → List ℕ → List ℕ
 elementOctets id c = id ∷ lengthOctets (length c) ++ c

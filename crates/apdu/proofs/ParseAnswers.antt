@@ -1,0 +1,79 @@
+-- What each way through the code that parses answers.
+use Prim.Native.Nat.{ℕ, _<_, _≤_}
+use mathlib.Core.Path.{_≡_, refl, sym, ap, _∙_}
+use mathlib.Core.Bool.{true, false}
+use mathlib.Core.List.{List, [], _∷_}
+use native.Mathlib.Omega.{arith}
+use lib.ListN.{getD}
+use lib.Dec.{leb}
+use borrow.Author.Tests.{eq-eqb, ne-eqb, le-leb, lt-leb}
+use Rattle.base.proofs.Tests.{cond-true, cond-false, and-true, and-false-left, and-false-right}
+use Rattle.records.specs.Limits.{levels}
+use Rattle.ber.specs.declared.header.Header.{Header}
+use Rattle.ber.specs.Header.{headerOf}
+use Rattle.ber.specs.Element.{wellFormed}
+use Rattle.apdu.specs.declared.Number.{Number}
+use Rattle.apdu.specs.declared.Number.the-variants.{Of, Absent}
+use Rattle.apdu.specs.Field.{Field}
+use Rattle.apdu.specs.Parse.{badlyStructured, unrecognized, mistyped, codedOf, linkedOf, invokeOf, resultOf, errorOf, reject, isProblem, idAllowed, rejectWith, rejectOf, behindId, withId, byKind, parseAt, parse}
+
+-- A2: a field that is not 30, whatever follows
+pub result-not : (i : ℕ) (f : Field) (fs : List Field) → (f .identifier ≡ 0x30 → ⊥) → mistyped (Of i) ≡ resultOf i (f ∷ fs)
+unfolding resultOf
+result-not i f [] n = cond-false _ _ (ne-eqb (f .identifier) 0x30 n)
+result-not i f (g ∷ fs) n = refl
+
+-- A4: a problem and an id that goes with it
+module _ (n : Number) (t k : ℕ) (c : List ℕ) where
+  pub reject-right : isProblem k c ≡ true → idAllowed n t k ≡ true → reject n k (getD c 0 0) ≡ rejectWith n t k c
+  unfolding rejectWith
+  reject-right x y = cond-true _ _ (and-true x y)
+
+  pub reject-problem : isProblem k c ≡ false → mistyped Absent ≡ rejectWith n t k c
+  unfolding rejectWith
+  reject-problem x = cond-false _ _ (and-false-left (isProblem k c) (idAllowed n t k) x)
+
+  pub reject-id : idAllowed n t k ≡ false → mistyped Absent ≡ rejectWith n t k c
+  unfolding rejectWith
+  reject-id y = cond-false _ _ (and-false-right (isProblem k c) (idAllowed n t k) y)
+
+-- A1 to A3 behind a right id
+module _ (t i : ℕ) (n : Number) (fs : List Field) (w : n ≡ Of i) where
+  pub behind-invoke : t ≡ 0xA1 → invokeOf i (linkedOf fs) ≡ behindId t n fs
+  unfolding behindId
+  behind-invoke e = cond-true _ _ (eq-eqb t 0xA1 e) ∙ ap (λ (m : Number). behindId t m fs) (sym w)
+
+  pub behind-result : (t ≡ 0xA1 → ⊥) → t ≡ 0xA2 → resultOf i fs ≡ behindId t n fs
+  unfolding behindId
+  behind-result x e = cond-true _ _ (eq-eqb t 0xA2 e) ∙ cond-false _ _ (ne-eqb t 0xA1 x) ∙ ap (λ (m : Number). behindId t m fs) (sym w)
+
+  pub behind-error : (t ≡ 0xA1 → ⊥) → (t ≡ 0xA2 → ⊥) → errorOf i (codedOf fs) ≡ behindId t n fs
+  unfolding behindId
+  behind-error x y = cond-false _ _ (ne-eqb t 0xA2 y) ∙ cond-false _ _ (ne-eqb t 0xA1 x) ∙ ap (λ (m : Number). behindId t m fs) (sym w)
+
+-- the fields inside, by the first octet
+module _ (t : ℕ) (fs : List Field) where
+  pub kind-low : t < 0xA1 → unrecognized ≡ byKind t fs
+  unfolding byKind
+  kind-low h = cond-false _ _ (ne-eqb t 0xA4 (omega arith)) ∙ cond-false _ _ (and-false-left (leb 0xA1 t) (leb t 0xA3) (lt-leb 0xA1 t h))
+
+  pub kind-high : 0xA4 < t → unrecognized ≡ byKind t fs
+  unfolding byKind
+  kind-high h = cond-false _ _ (ne-eqb t 0xA4 (omega arith)) ∙ cond-false _ _ (and-false-right (leb 0xA1 t) (leb t 0xA3) (lt-leb t 0xA3 (omega arith)))
+
+  pub kind-with : 0xA1 ≤ t → t ≤ 0xA3 → withId t fs ≡ byKind t fs
+  unfolding byKind
+  kind-with l h = cond-true _ _ (and-true (le-leb 0xA1 t l) (le-leb t 0xA3 h))
+
+  pub kind-reject : t ≡ 0xA4 → rejectOf fs ≡ byKind t fs
+  unfolding byKind
+  kind-reject e = cond-true _ _ (eq-eqb t 0xA4 e) ∙ cond-false _ _ (and-false-right (leb 0xA1 t) (leb t 0xA3) (lt-leb t 0xA3 (omega arith)))
+
+-- the whole
+pub parse-not : (x : List ℕ) → wellFormed levels x ≡ false → badlyStructured ≡ parse x
+unfolding parse
+parse-not x e = cond-false _ _ e
+
+pub parse-by : (x : List ℕ) (h : Header) → wellFormed levels x ≡ true → h ≡ headerOf x → (g : Header) → h ≡ g → parseAt x g ≡ parse x
+unfolding parse
+parse-by x h e q g w = ap (parseAt x) (sym w ∙ q) ∙ cond-true _ _ e

@@ -1,0 +1,281 @@
+-- What is written reads back, for all four kinds, within the octets and levels of an APDU.
+use Prim.Native.Nat.{ℕ, zero, suc, _+_, _-_, _^_, _≤_, _<_}
+use mathlib.Core.Path.{_≡_, refl, sym, ap, _∙_, subst}
+use mathlib.Core.Bool.{Bool, true, false, cond}
+use mathlib.Core.List.{List, [], _∷_, _++_, append-nil, map}
+use mathlib.Core.Option.{Option, some, none}
+use native.Mathlib.Omega.{arith}
+use lib.ListN.{length, length-append}
+use lib.Dec.{eqb, leb}
+use borrow.Author.Tests.{eq-eqb, leb-true}
+use Rattle.base.proofs.Tests.{and-left, and-right}
+use Rattle.records.specs.declared.Code.{Code}
+use Rattle.records.specs.Limits.{octets, levels}
+use Rattle.ber.specs.Header.{oneOf}
+use Rattle.ber.specs.Rule.{contentRule}
+use Rattle.ber.specs.Integer.{integerOctets}
+use Rattle.ber.specs.Element.{constructed, contentsOf, wellFormed, elementOctets, given}
+use Rattle.ber.proofs.IntegerLaws.{count-within, integer-length, integer-short, integer-back}
+use Rattle.ber.proofs.ElementOctets.{oneOctet, element-octets-length}
+use Rattle.apdu.specs.declared.Number.{Number}
+use Rattle.apdu.specs.declared.Number.the-variants.{Of, Absent}
+use Rattle.apdu.specs.declared.CodeField.the-variants.{Local}
+use Rattle.apdu.specs.Field.{Field, fields}
+use Rattle.apdu.specs.Parse.{CodedValue, invoke, result, error, reject, numberOf, numberUnder, idOf, isCode, codeOf, Coded, coded, codedWith, codedOf, linked, unlinked, linkedWith, linkedOf, invokeWith, invokeOf, resultWith, resultOf, errorOf, isProblem, idAllowed, rejectWith, rejectBehind, rejectOf, behindId, withId, byKind, parseAt, parse}
+use Rattle.apdu.specs.Encode.{integerField, linkedField, rejectedField, valueField, bodyField, codedFields, encodeInvoke, encodeResult, encodeError, encodeReject}
+use Rattle.apdu.proofs.FieldLaws.{concat, AllWell, contents-concat, fieldOf, fields-concat, field-whole, header-alone, part-alone, field-octets, octets-well-formed}
+use Rattle.apdu.proofs.SizeLaws.{reject-most}
+
+-- an identifier of one octet under which all contents are right
+pub record Free (t : ℕ) : Type 0 where
+  pub one : oneOctet t ≡ true
+  pub rule : (c : List ℕ) → contentRule t c ≡ true
+
+-- an APDU's fields are those that were written, end to end, inside it
+pub parse-fields : (t : ℕ) (es : List (List ℕ)) → Free t → constructed t ≡ true → AllWell (levels - 1) es → length (elementOctets t (concat es)) ≤ octets
+    → parse (elementOctets t (concat es)) ≡ byKind t (map fieldOf es)
+unfolding parse parseAt
+parse-fields t es g k f h =
+    let c = concat es in
+    let n : length c < 2 ^ 32 = omega (arith, element-octets-length t (concat es)) in
+    let i : cond (constructed t) (contentsOf 15 c) true ≡ true = ap (λ (b : Bool). cond b (contentsOf 15 c) true) k ∙ contents-concat 15 es f in
+    rw (octets-well-formed t c (g .one) n 15 (g .rule c) i, header-alone t c (g .one) n)
+    (ap (λ (l : List ℕ). byKind t (fields l)) (part-alone t c (g .one) n) ∙ ap (byKind t) (fields-concat 15 es f))
+
+-- ---- integers
+
+-- a number that 32 bits hold, or none
+abbrev pub NumberFits : Number → Type 0
+NumberFits Absent = Unit {0}
+NumberFits (Of w) = w < 2 ^ 32
+
+module _ (w t : ℕ) (s : w < 2 ^ 32) (g : oneOctet t ≡ true) where
+  octets-few : length (integerOctets w) < 2 ^ 32
+  octets-few = omega (arith, integer-length w, count-within w)
+
+  integer-is : fieldOf (integerField t w) ≡ record { identifier = t; contents = integerOctets w; whole = integerField t w }
+  integer-is = field-octets t (integerOctets w) g octets-few
+
+  integer-well : (d : ℕ) → contentRule t (integerOctets w) ≡ true → constructed t ≡ false → wellFormed (suc d) (integerField t w) ≡ true
+  integer-well d k p =
+      octets-well-formed t (integerOctets w) g octets-few d k (ap (λ (b : Bool). cond b (contentsOf d (integerOctets w)) true) p)
+
+  integer-under : fieldOf (integerField t w) .identifier ≡ t
+  integer-under = rw integer-is
+
+  number-back : numberUnder t (fieldOf (integerField t w) .identifier) (fieldOf (integerField t w) .contents) ≡ Of w
+  unfolding numberUnder numberOf
+  number-back = rw (integer-is, eq-eqb t t refl, integer-back w s)
+
+module _ (w : ℕ) (s : w < 2 ^ 32) where
+  id-well : (d : ℕ) → wellFormed (suc d) (integerField 0x02 w) ≡ true
+  unfolding oneOf contentRule constructed
+  id-well d = integer-well w 0x02 s refl d (integer-short w s) refl
+
+  linked-well : (d : ℕ) → wellFormed (suc d) (integerField 0x80 w) ≡ true
+  unfolding oneOf contentRule constructed
+  linked-well d = integer-well w 0x80 s refl d refl refl
+
+  id-back : idOf (fieldOf (integerField 0x02 w)) ≡ Of w
+  unfolding oneOf
+  id-back = number-back w 0x02 s refl
+
+  id-under : fieldOf (integerField 0x02 w) .identifier ≡ 0x02
+  unfolding oneOf
+  id-under = integer-under w 0x02 s refl
+
+-- ---- a code and a value
+
+-- a value of at most d levels, or none
+abbrev pub ValueFits : ℕ → Option (List ℕ) → Type 0
+ValueFits d none = Unit {0}
+ValueFits d (some v) = wellFormed d v ≡ true
+
+-- a given value, where it is not empty
+pub given-fits : (d : ℕ) (v : List ℕ) → (1 ≤ length v → wellFormed d v ≡ true) → ValueFits d (given v)
+unfolding given
+given-fits d [] f = tt
+given-fits d (b ∷ v) f = f (omega arith)
+
+abbrev valueList : Option (List ℕ) → List (List ℕ)
+valueList none = []
+valueList (some v) = v ∷ []
+
+value-well : (d : ℕ) (v : Option (List ℕ)) → ValueFits d v → AllWell d (valueList v)
+value-well d none f = tt
+value-well d (some v) f = (f, tt)
+
+value-concat : (v : Option (List ℕ)) → concat (valueList v) ≡ valueField v
+unfolding valueField
+value-concat none = refl
+value-concat (some v) = append-nil v
+
+coded-with : (d : ℕ) (c : Code) (v : Option (List ℕ)) → ValueFits d v → codedWith (Local c) (map fieldOf (valueList v)) ≡ coded (Local c) v
+unfolding codedWith
+coded-with d c none f = refl
+coded-with d c (some v) f = ap {B = Coded} (λ l. coded (Local c) (some l)) (field-whole d v f)
+
+coded-back : (d : ℕ) (c : Code) (v : Option (List ℕ)) → c .0 < 2 ^ 32 → ValueFits d v → codedOf (map fieldOf (integerField 0x02 (c .0) ∷ valueList v)) ≡ coded (Local c) v
+unfolding codedOf isCode codeOf
+coded-back d c v s f = rw (id-back (c .0) s, id-under (c .0) s) (coded-with d c v f)
+
+-- ---- A1 and A3
+
+-- the fields of an Invoke or an Error, one list of octets for each
+abbrev codedList : ℕ → Number → Code → Option (List ℕ) → List (List ℕ)
+codedList i Absent c v = integerField 0x02 i ∷ integerField 0x02 (c .0) ∷ valueList v
+codedList i (Of l) c v = integerField 0x02 i ∷ integerField 0x80 l ∷ integerField 0x02 (c .0) ∷ valueList v
+
+coded-concat : (i : ℕ) (l : Number) (c : Code) (v : Option (List ℕ)) → concat (codedList i l c v) ≡ codedFields i l c v
+unfolding linkedField
+coded-concat i Absent c v = ap (λ (x : List ℕ). integerField 0x02 i ++ (integerField 0x02 (c .0) ++ x)) (value-concat v)
+coded-concat i (Of l) c v = ap (λ (x : List ℕ). integerField 0x02 i ++ (integerField 0x80 l ++ (integerField 0x02 (c .0) ++ x))) (value-concat v)
+
+coded-well : (d i : ℕ) (l : Number) (c : Code) (v : Option (List ℕ)) → i < 2 ^ 32 → NumberFits l → c .0 < 2 ^ 32 → ValueFits (suc d) v → AllWell (suc d) (codedList i l c v)
+coded-well d i Absent c v si sl sc f = (id-well i si d, (id-well (c .0) sc d, value-well (suc d) v f))
+coded-well d i (Of l) c v si sl sc f = (id-well i si d, (linked-well l sl d, (id-well (c .0) sc d, value-well (suc d) v f)))
+
+coded-parsed : (t i : ℕ) (l : Number) (c : Code) (v : Option (List ℕ)) → Free t → constructed t ≡ true → i < 2 ^ 32 → NumberFits l → c .0 < 2 ^ 32 → ValueFits (levels - 1) v → length (elementOctets t (codedFields i l c v)) ≤ octets
+    → parse (elementOctets t (codedFields i l c v)) ≡ byKind t (map fieldOf (codedList i l c v))
+coded-parsed t i l c v g k si sl sc f h =
+    ap (λ (x : List ℕ). parse (elementOctets t x)) (sym (coded-concat i l c v))
+    ∙ parse-fields t (codedList i l c v) g k (coded-well 14 i l c v si sl sc f) (rw (coded-concat i l c v) h)
+
+-- a code in the place of the linked id is no linked id
+linked-not : (f : Field) (fs : List Field) → f .identifier ≡ 0x02 → linkedOf (f ∷ fs) ≡ linked Absent (f ∷ fs)
+unfolding linkedOf
+linked-not f fs e =
+    ap (λ (t : ℕ). cond (eqb t 0x80) (linkedWith (numberUnder 0x80 (f .identifier) (f .contents)) fs) (cond (eqb t 0x81) (cond (eqb (length (f .contents)) 0) (linked Absent fs) unlinked) (linked Absent (f ∷ fs)))) e
+
+linked-back : (l : ℕ) (fs : List Field) → l < 2 ^ 32 → linkedOf (fieldOf (integerField 0x80 l) ∷ fs) ≡ linked (Of l) fs
+unfolding linkedOf linkedWith oneOf
+linked-back l fs s = rw (number-back l 0x80 s refl, integer-under l 0x80 s refl)
+
+invoke-fields : (i : ℕ) (l : Number) (c : Code) (v : Option (List ℕ)) → i < 2 ^ 32 → NumberFits l → c .0 < 2 ^ 32 → ValueFits 15 v → byKind 0xA1 (map fieldOf (codedList i l c v)) ≡ invoke i l (Local c) v
+unfolding byKind withId behindId invokeOf invokeWith
+invoke-fields i Absent c v si sl sc f =
+    rw (id-back i si, linked-not (fieldOf (integerField 0x02 (c .0))) (map fieldOf (valueList v)) (id-under (c .0) sc), coded-back 15 c v sc f)
+invoke-fields i (Of l) c v si sl sc f = rw (id-back i si, linked-back l (map fieldOf (integerField 0x02 (c .0) ∷ valueList v)) sl, coded-back 15 c v sc f)
+
+pub parse-invoke : (i : ℕ) (l : Number) (c : Code) (v : Option (List ℕ)) → i < 2 ^ 32 → NumberFits l → c .0 < 2 ^ 32 → ValueFits (levels - 1) v → length (encodeInvoke i l c v) ≤ octets
+    → parse (encodeInvoke i l c v) ≡ invoke i l (Local c) v
+unfolding encodeInvoke oneOf contentRule constructed
+parse-invoke i l c v si sl sc f h =
+    coded-parsed 0xA1 i l c v (record { one = refl; rule = λ _. refl }) refl si sl sc f h ∙ invoke-fields i l c v si sl sc f
+
+pub parse-error : (i : ℕ) (c : Code) (v : Option (List ℕ)) → i < 2 ^ 32 → c .0 < 2 ^ 32 → ValueFits (levels - 1) v → length (encodeError i c v) ≤ octets → parse (encodeError i c v) ≡ error i (Local c) v
+unfolding encodeError oneOf contentRule constructed byKind withId behindId errorOf
+parse-error i c v si sc f h =
+    coded-parsed 0xA3 i Absent c v (record { one = refl; rule = λ _. refl }) refl si tt sc f h
+    ∙ rw (id-back i si, coded-back 15 c v sc f)
+
+-- ---- A2
+
+-- a result's code stands only with its value
+abbrev pub bodyOf : Code → Option (List ℕ) → Option CodedValue
+bodyOf c none = none
+bodyOf c (some v) = some (record { code = Local c; value = v })
+
+-- 30 with a code and a value
+module _ (c : Code) (v : List ℕ) (s : c .0 < 2 ^ 32) (f : wellFormed 14 v ≡ true) (n : length (integerField 0x02 (c .0) ++ v) < 2 ^ 32) where
+  body-concat : concat (integerField 0x02 (c .0) ∷ v ∷ []) ≡ integerField 0x02 (c .0) ++ v
+  body-concat = ap (λ (l : List ℕ). integerField 0x02 (c .0) ++ l) (append-nil v)
+
+  body-well : wellFormed 15 (elementOctets 0x30 (integerField 0x02 (c .0) ++ v)) ≡ true
+  unfolding oneOf contentRule constructed
+  body-well =
+      octets-well-formed 0x30 (integerField 0x02 (c .0) ++ v) refl n 14 refl
+      (ap (contentsOf 14) (sym body-concat) ∙ contents-concat 14 (integerField 0x02 (c .0) ∷ v ∷ []) (id-well (c .0) s 13, (f, tt)))
+
+  body-coded : codedOf (fields (integerField 0x02 (c .0) ++ v)) ≡ coded (Local c) (some v)
+  body-coded =
+      ap (λ (l : List ℕ). codedOf (fields l)) (sym body-concat)
+      ∙ ap codedOf (fields-concat 14 (integerField 0x02 (c .0) ∷ v ∷ []) (id-well (c .0) s 13, (f, tt))) ∙ coded-back 14 c (some v) s f
+
+  body-result : (i : ℕ) → resultOf i (fieldOf (elementOctets 0x30 (integerField 0x02 (c .0) ++ v)) ∷ []) ≡ result i (bodyOf c (some v))
+  unfolding resultOf resultWith oneOf
+  body-result i = rw (field-octets 0x30 (integerField 0x02 (c .0) ++ v) refl n, body-coded)
+
+pub parse-result : (i : ℕ) (c : Code) (v : Option (List ℕ)) → i < 2 ^ 32 → c .0 < 2 ^ 32 → ValueFits (levels - 2) v → length (encodeResult i c v) ≤ octets → parse (encodeResult i c v) ≡ result i (bodyOf c v)
+unfolding encodeResult bodyField oneOf contentRule constructed byKind withId behindId resultOf
+parse-result i c none si sc f h =
+    parse-fields 0xA2 (integerField 0x02 i ∷ []) (record { one = refl; rule = λ _. refl }) refl (id-well i si 14, tt) h ∙ rw (id-back i si)
+parse-result i c (some v) si sc f h =
+    let b = integerField 0x02 (c .0) ++ v in
+    let n : length b < 2 ^ 32 = omega (arith, element-octets-length 0xA2 (integerField 0x02 i ++ elementOctets 0x30 b), length-append (integerField 0x02 i) (elementOctets 0x30 b), element-octets-length 0x30 b) in
+    let es = integerField 0x02 i ∷ elementOctets 0x30 b ∷ [] in
+    let e : concat es ≡ integerField 0x02 i ++ elementOctets 0x30 b = ap (λ (l : List ℕ). integerField 0x02 i ++ l) (append-nil (elementOctets 0x30 b)) in
+    ap (λ (l : List ℕ). parse (elementOctets 0xA2 l)) (sym e)
+    ∙ parse-fields 0xA2 es (record { one = refl; rule = λ _. refl }) refl (id-well i si 14, (body-well c v sc f n, tt)) (rw e h)
+    ∙ rw (id-back i si) (body-result c v sc f n i)
+
+-- ---- A4
+
+null-back : fieldOf (elementOctets 0x05 []) ≡ record { identifier = 0x05; contents = []; whole = elementOctets 0x05 [] }
+unfolding oneOf
+null-back = field-octets 0x05 [] refl (omega arith)
+
+null-well : (d : ℕ) → wellFormed (suc d) (elementOctets 0x05 []) ≡ true
+unfolding oneOf contentRule constructed
+null-well d = octets-well-formed 0x05 [] refl (omega arith) d refl refl
+
+rejected-well : (i : Number) → NumberFits i → (d : ℕ) → wellFormed (suc d) (rejectedField i) ≡ true
+unfolding rejectedField
+rejected-well Absent s d = null-well d
+rejected-well (Of i) s d = id-well i s d
+
+rejected-back : (i : Number) → NumberFits i → idOf (fieldOf (rejectedField i)) ≡ i
+unfolding rejectedField numberUnder
+rejected-back Absent s = rw null-back
+rejected-back (Of i) s = id-back i s
+
+rejected-allowed : (i : Number) (k : ℕ) → idAllowed i 0x05 k ≡ true → idAllowed i (fieldOf (rejectedField i) .identifier) k ≡ true
+unfolding rejectedField idAllowed
+rejected-allowed Absent k e = rw null-back e
+rejected-allowed (Of i) k e = refl
+
+-- 80 to 83, as identifiers
+record ProblemKind (k : ℕ) : Type 0 where
+  free : Free k
+  plain : constructed k ≡ false
+
+problem-kind : (k j : ℕ) → j ≤ 3 → k ≡ 0x80 + j → ProblemKind k
+unfolding oneOf contentRule constructed
+problem-kind k j h e = subst ProblemKind (sym e) (go j h)
+  where
+    go : (n : ℕ) → n ≤ 3 → ProblemKind (0x80 + n)
+    go zero l = record { free = record { one = refl; rule = λ _. refl }; plain = refl }
+    go (suc zero) l = record { free = record { one = refl; rule = λ _. refl }; plain = refl }
+    go (suc (suc zero)) l = record { free = record { one = refl; rule = λ _. refl }; plain = refl }
+    go (suc (suc (suc zero))) l = record { free = record { one = refl; rule = λ _. refl }; plain = refl }
+    go (suc (suc (suc (suc n)))) l = absurd (omega arith)
+
+module _ (k p : ℕ) (e : isProblem k (p ∷ []) ≡ true) where
+  problem-bounds : (0x80 ≤ k) × (k ≤ 0x83)
+  unfolding isProblem
+  problem-bounds = (leb-true 0x80 k (and-left (leb 0x80 k) _ e), leb-true k 0x83 (and-left (leb k 0x83) _ (and-right (leb 0x80 k) _ e)))
+
+  known : ProblemKind k
+  known = problem-kind k (k - 0x80) (omega (arith, problem-bounds)) (omega (arith, problem-bounds))
+
+  problem-is : fieldOf (elementOctets k (p ∷ [])) ≡ record { identifier = k; contents = p ∷ []; whole = elementOctets k (p ∷ []) }
+  problem-is = field-octets k (p ∷ []) (known .free .one) (omega arith)
+
+  problem-well : wellFormed 15 (elementOctets k (p ∷ [])) ≡ true
+  problem-well =
+      octets-well-formed k (p ∷ []) (known .free .one) (omega arith) 14 (known .free .rule (p ∷ []))
+      (ap (λ (b : Bool). cond b (contentsOf 14 (p ∷ [])) true) (known .plain))
+
+  reject-fields : (i : Number) → NumberFits i → idAllowed i 0x05 k ≡ true → byKind 0xA4 (map fieldOf (rejectedField i ∷ elementOctets k (p ∷ []) ∷ [])) ≡ reject i k p
+  unfolding byKind rejectOf rejectBehind rejectWith
+  reject-fields i s a = rw (problem-is, e, rejected-back i s, rejected-allowed i k a)
+
+-- the problem is right for its kind, and 05 00 stands only with 80
+pub parse-reject : (i : Number) (k p : ℕ) → NumberFits i → isProblem k (p ∷ []) ≡ true → idAllowed i 0x05 k ≡ true → parse (encodeReject i k p) ≡ reject i k p
+unfolding encodeReject oneOf contentRule constructed
+parse-reject i k p s e a =
+    let es = rejectedField i ∷ elementOctets k (p ∷ []) ∷ [] in
+    let q : concat es ≡ rejectedField i ++ elementOctets k (p ∷ []) = ap (λ (l : List ℕ). rejectedField i ++ l) (append-nil (elementOctets k (p ∷ []))) in
+    ap (λ (l : List ℕ). parse (elementOctets 0xA4 l)) (sym q)
+    ∙ parse-fields 0xA4 es (record { one = refl; rule = λ _. refl }) refl (rejected-well i s 14, (problem-well k p e, tt)) (rw q (omega (arith, reject-most i k p)))
+    ∙ reject-fields k p e i s a

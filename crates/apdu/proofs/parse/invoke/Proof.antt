@@ -1,0 +1,65 @@
+-- The linked id, then the code and its value, each by what its step found.
+use Rattle.apdu.specs.declared.field.Coded.the-variants.{Is, Wrong as NoCode}
+use Rattle.apdu.specs.declared.field.Linked.the-variants.{To, Wrong as NoLink}
+use Rattle.apdu.proofs.Answers.{read-as}
+use Rattle.apdu.specs.Parse.{invokeWith, invokeOf}
+use Rattle.apdu.specs.Reading.{readCoded, readLinked, readParsed}
+use mathlib.Core.Path.{_∙_}
+use borrow.Author.Needs.{needs}
+use Rattle.apdu.proofs.parse.invoke.Statement.{statement}
+use Rattle.apdu.proofs.parse.invoke.Tie as tie
+
+linked-id-requires : tie.Need-linked-id-requires
+linked-id-requires c κs = search needs
+
+enum-told : tie.Need-enum-told
+enum-told c = search needs
+
+enum-known-linked : tie.Need-enum-known-linked
+enum-known-linked c = search needs
+
+code-and-value-requires : tie.Need-code-and-value-requires
+code-and-value-requires c κs = search needs
+
+enum-told-2 : tie.Need-enum-told-2
+enum-told-2 c = search needs
+
+enum-known-code : tie.Need-enum-known-code
+enum-known-code c = search needs
+
+returns : tie.Need-returns
+unfolding readParsed readLinked invokeOf
+returns c =
+    let a = c .before .before .before .before .args in
+    read-as (readLinked (a .s .now) (a .end)) (invokeOf (a .id)) (c .before .before .linked-id .result) _ (c .before .before .linked-id .ensures) NoLink (cc)
+
+returns-2 : tie.Need-returns-2
+unfolding readParsed readLinked readCoded invokeOf invokeWith
+returns-2 c =
+    let a = c .before .before .before .before .before .before .before .before .args in
+    let g = c .before .before .before .before .linked .given in
+    read-as (readCoded (a .s .now)) (invokeWith (a .id) (g .0 .0)) (c .before .before .code-and-value .result) _ (c .before .before .code-and-value .ensures) NoCode (cc)
+    ∙ read-as (readLinked (a .s .now) (a .end)) (invokeOf (a .id)) (c .before .before .before .before .before .before .linked-id .result) _ (c .before .before .before .before .before .before .linked-id .ensures) (To (g .0 .0) (g .0 .1 .0)) (cc)
+
+returns-3 : tie.Need-returns-3
+unfolding readParsed readLinked readCoded invokeOf invokeWith
+returns-3 c =
+    let a = c .before .before .before .before .before .before .before .before .before .args in
+    let g = c .before .before .before .before .before .linked .given in
+    let h = c .before .code .given in
+    read-as (readCoded (a .s .now)) (invokeWith (a .id) (g .0 .0)) (c .before .before .before .code-and-value .result) _ (c .before .before .before .code-and-value .ensures) (Is (h .0 .0) (h .0 .1 .0)) (cc)
+    ∙ read-as (readLinked (a .s .now) (a .end)) (invokeOf (a .id)) (c .before .before .before .before .before .before .before .linked-id .result) _ (c .before .before .before .before .before .before .before .linked-id .ensures) (To (g .0 .0) (g .0 .1 .0)) (cc)
+
+pub invoke-spec : {M : Type 1} → statement M
+invoke-spec =
+    tie.close
+    (tie.spec
+    linked-id-requires
+    enum-told
+    enum-known-linked
+    code-and-value-requires
+    enum-told-2
+    enum-known-code
+    returns
+    returns-2
+    returns-3)

@@ -1,0 +1,51 @@
+-- What should be the id, and what is behind it.
+use Rattle.apdu.proofs.FieldAnswers.{no-field, number-first}
+use Rattle.apdu.specs.Parse.{behindId, withId}
+use Rattle.apdu.specs.Reading.{readParsed}
+use mathlib.Core.Path.{refl, _∙_}
+use borrow.Author.Needs.{needs}
+use Rattle.apdu.proofs.parse.with_id.Statement.{statement}
+use Rattle.apdu.proofs.parse.with_id.Tie as tie
+
+field-at-requires : tie.Need-field-at-requires
+field-at-requires c κs = search needs
+
+enum-told : tie.Need-enum-told
+enum-told c = search needs
+
+enum-known-identifier : tie.Need-enum-known-identifier
+enum-known-identifier c = search needs
+
+between-requires : tie.Need-between-requires
+between-requires c κs = search needs
+
+number-under-requires : tie.Need-number-under-requires
+number-under-requires c κs = search needs
+
+behind-id-requires : tie.Need-behind-id-requires
+behind-id-requires c κs = search needs
+
+returns : tie.Need-returns
+unfolding readParsed withId
+returns c = no-field _ _ _ _ (c .before .before .field-at .ensures) (withId (c .before .before .before .before .args .first)) (cc)
+
+returns-2 : tie.Need-returns-2
+unfolding withId
+returns-2 c =
+    let g = c .before .before .before .before .identifier .given in
+    let a = c .before .before .before .before .before .before .before .before .args in
+    c .behind-id .ensures
+    ∙ number-first _ _ _ _ (c .before .before .before .before .before .before .field-at .ensures) (g .0 .0) (g .0 .1 .0) (g .0 .1 .1 .0) (cc) (withId (a .first)) (behindId (a .first)) _ _ (c .before .before .between .ensures) (c .before .number-under .ensures) refl
+
+pub with-id-spec : {M : Type 1} → statement M
+with-id-spec =
+    tie.close
+    (tie.spec
+    field-at-requires
+    enum-told
+    enum-known-identifier
+    between-requires
+    number-under-requires
+    behind-id-requires
+    returns
+    returns-2)

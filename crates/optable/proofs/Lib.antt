@@ -1,0 +1,9 @@
+pub mod CountLaws
+pub mod ListLaws
+pub mod TableLaws
+pub mod FieldLaws
+pub mod OrderLaws
+mod ReadAnswers
+mod ValidityAnswers
+mod LookupAnswers
+mod ValueAnswers

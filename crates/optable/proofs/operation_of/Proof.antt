@@ -1,0 +1,33 @@
+-- What is read of the place found.
+use mathlib.Core.Path.{refl}
+use Rattle.optable.specs.declared.Place.the-variants.{At, Nowhere}
+use Rattle.optable.specs.Lookup.{operationIn}
+use Rattle.optable.proofs.LookupAnswers.{read-of-place}
+use borrow.Author.Needs.{needs}
+use Rattle.optable.proofs.operation_of.Statement.{statement}
+use Rattle.optable.proofs.operation_of.Tie as tie
+
+find-requires : tie.Need-find-requires
+find-requires c κs = search needs
+
+enum-known-i : tie.Need-enum-known-i
+enum-known-i c = search needs
+
+operation-at-requires : tie.Need-operation-at-requires
+operation-at-requires c κs = search needs
+
+enum-told : tie.Need-enum-told
+enum-told c = search needs
+
+returns : tie.Need-returns
+unfolding operationIn
+returns c = read-of-place _ _ _ _ _ (At (c .before .before .i .given .0 .0)) _ (c .before .before .before .before .find .ensures) (cc) (c .operation-at .ensures)
+
+returns-2 : tie.Need-returns-2
+unfolding operationIn
+returns-2 c = read-of-place _ _ _ _ _ Nowhere _ (c .before .before .find .ensures) (cc) refl
+
+pub operation-of-spec : {M : Type 1} → statement M
+operation-of-spec =
+    tie.close
+    (tie.spec find-requires enum-known-i operation-at-requires enum-told returns returns-2)

@@ -1,0 +1,60 @@
+-- By the part: the check of its entries.
+use Rattle.optable.specs.Validity.{fieldsRight}
+use borrow.Author.Needs.{needs}
+use Rattle.optable.proofs.validity.are_fields_right.Statement.{statement}
+use Rattle.optable.proofs.validity.are_fields_right.Tie as tie
+
+enum-told : tie.Need-enum-told
+enum-told c = search needs
+
+is-operation-at-right-requires : tie.Need-is-operation-at-right-requires
+is-operation-at-right-requires c κs = search needs
+
+enum-told-2 : tie.Need-enum-told-2
+enum-told-2 c = search needs
+
+is-error-at-right-requires : tie.Need-is-error-at-right-requires
+is-error-at-right-requires c κs = search needs
+
+enum-told-3 : tie.Need-enum-told-3
+enum-told-3 c = search needs
+
+is-pair-right-requires : tie.Need-is-pair-right-requires
+is-pair-right-requires c κs = search needs
+
+enum-told-4 : tie.Need-enum-told-4
+enum-told-4 c = search needs
+
+is-pair-right-requires-2 : tie.Need-is-pair-right-requires-2
+is-pair-right-requires-2 c κs = search needs
+
+returns : tie.Need-returns
+returns c = cc
+
+returns-2 : tie.Need-returns-2
+returns-2 c = cc
+
+returns-3 : tie.Need-returns-3
+unfolding fieldsRight
+returns-3 c = cc
+
+returns-4 : tie.Need-returns-4
+unfolding fieldsRight
+returns-4 c = cc
+
+pub are-fields-right-spec : {M : Type 1} → statement M
+are-fields-right-spec =
+    tie.close
+    (tie.spec
+    enum-told
+    is-operation-at-right-requires
+    enum-told-2
+    is-error-at-right-requires
+    enum-told-3
+    is-pair-right-requires
+    enum-told-4
+    is-pair-right-requires-2
+    returns
+    returns-2
+    returns-3
+    returns-4)

@@ -1,0 +1,6 @@
+-- What a reader must believe of the operation table: document 01, 'Operation table'.
+pub mod Count
+pub mod Read
+pub mod Validity
+pub mod Lookup
+pub mod Value

@@ -1,0 +1,130 @@
+// The operation table: whether octets are a valid one, and what it says of a code: document 01, 'Operation table'.
+ghost use mathlib.Core.Path.{_≡_};
+ghost use Rattle.optable.specs.Validity.{valid};
+ghost use Rattle.optable.specs.Lookup.{operationIn, errorIn, paired, childOf, hasChild, CodeAnswer, PairAnswer};
+ghost use Rattle.ber.specs.Element.{given};
+ghost use Rattle.optable.specs.Value.{valueRight};
+
+mod answer;
+mod lookup;
+mod read;
+mod validity;
+
+use lookup::find;
+use lookup::has_pair;
+use lookup::is_joined;
+use read::error_at;
+use read::operation_at;
+use records::Code;
+use validity::is_laid_out;
+use validity::is_part_right;
+
+// The parts of a table, in their order.
+pub enum Part {
+    Operations,
+    Errors,
+    ErrorPairs,
+    ChildPairs,
+}
+
+// Where a code stands in its list.
+pub enum Place {
+    At(u16),
+    Nowhere,
+}
+
+// What a value must be: identifier 0 demands none, another is the value's first octet.
+pub struct Rule {
+    pub identifier: u8,
+    pub optional: bool,
+}
+
+pub enum Operation {
+    Listed {
+        class: u8,
+        argument: Rule,
+        result: Rule,
+    },
+    Unlisted,
+}
+
+// An error with the rule of its parameter.
+pub enum Error {
+    Known(Rule),
+    Unknown,
+}
+
+pub fn valid(table: &[u8]) -> bool
+    ensures { λ r. ⌜ r ≡ valid (now (table .entry)) ⌝ }
+{
+    if !is_laid_out(table) {
+        return false;
+    }
+    if !is_part_right(table, Part::Operations) {
+        return false;
+    }
+    if !is_part_right(table, Part::Errors) {
+        return false;
+    }
+    if !is_part_right(table, Part::ErrorPairs) {
+        return false;
+    }
+    is_part_right(table, Part::ChildPairs)
+}
+
+pub fn operation_of(table: &[u8], code: Code) -> Operation
+    ensures { λ r. ⌜ CodeAnswer (now (table .entry)) Part.Operations code (operationIn (now (table .entry))) r ⌝ }
+{
+    match find(table, Part::Operations, code) {
+        Place::At(i) => operation_at(table, i),
+        Place::Nowhere => Operation::Unlisted,
+    }
+}
+
+pub fn error_of(table: &[u8], code: Code) -> Error
+    ensures { λ r. ⌜ CodeAnswer (now (table .entry)) Part.Errors code (errorIn (now (table .entry))) r ⌝ }
+{
+    match find(table, Part::Errors, code) {
+        Place::At(i) => error_at(table, i),
+        Place::Nowhere => Error::Unknown,
+    }
+}
+
+// Whether the table pairs an error with an operation.
+pub fn is_paired(table: &[u8], operation: Code, error: Code) -> bool
+    ensures { λ r. ⌜ PairAnswer (now (table .entry)) (paired (now (table .entry)) operation error) r ⌝ }
+{
+    is_joined(table, Part::ErrorPairs, operation, error)
+}
+
+// Whether an operation is a listed child of another.
+pub fn is_child(table: &[u8], parent: Code, child: Code) -> bool
+    ensures { λ r. ⌜ PairAnswer (now (table .entry)) (childOf (now (table .entry)) parent child) r ⌝ }
+{
+    is_joined(table, Part::ChildPairs, parent, child)
+}
+
+pub fn has_child(table: &[u8], parent: Code) -> bool
+    ensures { λ r. ⌜ PairAnswer (now (table .entry)) (hasChild (now (table .entry)) parent) r ⌝ }
+{
+    match find(table, Part::Operations, parent) {
+        Place::At(i) => has_pair(table, Part::ChildPairs, i, 0, 65535),
+        Place::Nowhere => false,
+    }
+}
+
+// Whether a value, empty for none, is right by a rule.
+pub fn value_right(rule: Rule, value: &[u8]) -> bool
+    ensures { λ r. ⌜ r ≡ valueRight rule (given (now (value .entry))) ⌝ }
+{
+    if value.len() == 0 {
+        if rule.identifier == 0 {
+            return true;
+        }
+        return rule.optional;
+    }
+    if rule.identifier == 0 {
+        return false;
+    }
+    value[0] == rule.identifier
+}

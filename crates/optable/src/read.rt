@@ -1,0 +1,163 @@
+// What a table's octets say, an octet behind the end being 0.
+ghost use mathlib.Core.Path.{_≡_};
+ghost use Prim.Native.Nat.{_<_, _≤_};
+ghost use lib.ListN.{getD};
+ghost use Rattle.optable.specs.Read.{u16, u32, headOf, sizeOf, count, start, place, octetAt, codeAt, hasCode, operationAt, errorAt, firstAt, secondAt, secondPart, rank, below};
+use crate::Error;
+use crate::Operation;
+use crate::Part;
+use crate::Rule;
+use records::Code;
+
+fn octet(table: &[u8], at: usize) -> u8
+    ensures { λ r. ⌜ r ≡ getD (now (table .entry)) at 0 ⌝ }
+{
+    if at < table.len() {
+        return table[at];
+    }
+    0
+}
+
+// One look at the length where both octets are there.
+fn two(table: &[u8], at: usize) -> u16
+    requires { ⌜ at < 1048576 ⌝ }
+    ensures { λ r. ⌜ r ≡ u16 (now (table .entry)) at ⌝ }
+{
+    if at + 1 < table.len() {
+        return (table[at] as u16) * 256 + (table[at + 1] as u16);
+    }
+    (octet(table, at) as u16) * 256
+}
+
+fn four(table: &[u8], at: usize) -> u32
+    requires { ⌜ at < 1048574 ⌝ }
+    ensures { λ r. ⌜ r ≡ u32 (now (table .entry)) at ⌝ }
+{
+    let high = two(table, at);
+    let low = two(table, at + 2);
+    (high as u32) * 65536 + (low as u32)
+}
+
+fn head_of(part: Part) -> usize
+    ensures { λ r. ⌜ (r ≡ headOf part) × (r ≤ 12) ⌝ }
+{
+    match part {
+        Part::Operations => 0,
+        Part::Errors => 4,
+        Part::ErrorPairs => 8,
+        Part::ChildPairs => 12,
+    }
+}
+
+fn size_of(part: Part) -> usize
+    ensures { λ r. ⌜ (r ≡ sizeOf part) × (r ≤ 8) ⌝ }
+{
+    match part {
+        Part::Operations => 8,
+        Part::Errors => 6,
+        Part::ErrorPairs => 4,
+        Part::ChildPairs => 4,
+    }
+}
+
+pub(crate) fn second_part(part: Part) -> Part
+    ensures { λ r. ⌜ r ≡ secondPart part ⌝ }
+{
+    match part {
+        Part::Operations => Part::Operations,
+        Part::Errors => Part::Operations,
+        Part::ErrorPairs => Part::Errors,
+        Part::ChildPairs => Part::Operations,
+    }
+}
+
+pub(crate) fn count(table: &[u8], part: Part) -> u16
+    ensures { λ r. ⌜ r ≡ count (now (table .entry)) part ⌝ }
+{
+    two(table, head_of(part))
+}
+
+pub(crate) fn start(table: &[u8], part: Part) -> usize
+    ensures { λ r. ⌜ (r ≡ start (now (table .entry)) part) × (r < 65536) ⌝ }
+{
+    two(table, head_of(part) + 2) as usize
+}
+
+// Where entry `i` starts.
+pub(crate) fn entry_place(table: &[u8], part: Part, i: u16) -> usize
+    ensures { λ r. ⌜ (r ≡ place (now (table .entry)) part i) × (r < 1048560) ⌝ }
+{
+    start(table, part) + (i as usize) * size_of(part)
+}
+
+// Octet `n` of entry `i`.
+pub(crate) fn octet_at(table: &[u8], part: Part, i: u16, n: u8) -> u8
+    ensures { λ r. ⌜ r ≡ octetAt (now (table .entry)) part i n ⌝ }
+{
+    octet(table, entry_place(table, part, i) + (n as usize))
+}
+
+pub(crate) fn code_at(table: &[u8], part: Part, i: u16) -> Code
+    ensures { λ r. ⌜ r ≡ codeAt (now (table .entry)) part i ⌝ }
+{
+    Code(four(table, entry_place(table, part, i)))
+}
+
+pub(crate) fn has_code(table: &[u8], part: Part, code: Code, i: u16) -> bool
+    ensures { λ r. ⌜ r ≡ hasCode (now (table .entry)) part code i ⌝ }
+{
+    let there = code_at(table, part, i);
+    there.same(code)
+}
+
+pub(crate) fn first_at(table: &[u8], part: Part, i: u16) -> u16
+    ensures { λ r. ⌜ r ≡ firstAt (now (table .entry)) part i ⌝ }
+{
+    two(table, entry_place(table, part, i))
+}
+
+pub(crate) fn second_at(table: &[u8], part: Part, i: u16) -> u16
+    ensures { λ r. ⌜ r ≡ secondAt (now (table .entry)) part i ⌝ }
+{
+    two(table, entry_place(table, part, i) + 2)
+}
+
+pub(crate) fn operation_at(table: &[u8], i: u16) -> Operation
+    ensures { λ r. ⌜ r ≡ operationAt (now (table .entry)) i ⌝ }
+{
+    let flags = octet_at(table, Part::Operations, i, 7);
+    Operation::Listed {
+        class: octet_at(table, Part::Operations, i, 4),
+        argument: Rule {
+            identifier: octet_at(table, Part::Operations, i, 5),
+            optional: flags % 2 == 1,
+        },
+        result: Rule {
+            identifier: octet_at(table, Part::Operations, i, 6),
+            optional: flags / 2 % 2 == 1,
+        },
+    }
+}
+
+pub(crate) fn error_at(table: &[u8], i: u16) -> Error
+    ensures { λ r. ⌜ r ≡ errorAt (now (table .entry)) i ⌝ }
+{
+    let flag = octet_at(table, Part::Errors, i, 5);
+    Error::Known(Rule {
+        identifier: octet_at(table, Part::Errors, i, 4),
+        optional: flag % 2 == 1,
+    })
+}
+
+// How many signed numbers stand below the one with these two's complement bits.
+fn rank(bits: u32) -> u32
+    ensures { λ r. ⌜ r ≡ rank bits ⌝ }
+{
+    std::num::wrapping_add_u32(bits, 0x8000_0000)
+}
+
+pub(crate) fn is_below(a: Code, b: Code) -> bool
+    ensures { λ r. ⌜ r ≡ below a b ⌝ }
+{
+    rank(a.0) < rank(b.0)
+}

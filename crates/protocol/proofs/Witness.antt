@@ -1,0 +1,178 @@
+-- Demand 3 is not empty, and its premises are needed: runs that compute.
+use Prim.Native.Nat.{ℕ}
+use mathlib.Core.Path.{_≡_, refl}
+use mathlib.Core.List.{List, [], _∷_, map}
+use mathlib.Core.Option.{Option, some, none}
+use Rattle.records.specs.declared.Code.{Code}
+use Rattle.records.specs.State.{fresh}
+use Rattle.apdu.specs.declared.Number.the-variants.{Of, Absent}
+use Rattle.protocol.specs.Call.{receive, invoke, result, error, Refusal, plain, rejecting, Answer, accepted, refused}
+use Rattle.protocol.specs.Book.{kiosk, controller, Event, at, World, begin, answerTo, next, final}
+use Rattle.ber.specs.Header.{numberFrom, digits, continued, oneOf, highTag, identifierOctets, lengthOf, lengthCount, lengthOctets, headerWith, headerOf}
+use Rattle.ber.specs.Rule.{shortest, parts, contentRule}
+use Rattle.ber.specs.Element.{constructed, restRight, elementsIn, elementWith, elementOf, sizeIn, size, fills, wellFormed, elementOctets, given}
+use Rattle.ber.specs.Integer.{signOf, pattern, integerOf, fitsOctets, octetCount, integerOctets}
+use Rattle.optable.specs.Count.{every, any, seek}
+use Rattle.optable.specs.Read.{count, start, place, octetAt, codeAt, hasCode, operationAt, errorAt, firstAt, secondAt}
+use Rattle.optable.specs.Validity.{withinLimit, behind, laidOut, ruleRight, operationRight, errorRight, pairBelow, pairRight, indexed, allowed, above, rises, fieldsRight, entryRight, partRight, valid}
+use Rattle.optable.specs.Lookup.{find, operationIn, operationOf, errorIn, errorOf, joins, joined, parentAt, hasChild}
+use Rattle.optable.specs.Value.{valueRight}
+use Rattle.apdu.specs.Field.{fieldsWith, fieldsIn}
+use Rattle.apdu.specs.Parse.{numberOf, numberUnder, isCode, codeOf, codedWith, codedOf, linkedWith, linkedOf, invokeWith, invokeOf, resultWith, resultOf, mostProblem, isProblem, idAllowed, rejectWith, rejectBehind, rejectOf, behindId, withId, byKind, parseAt, parse, errorOf as errorFrom}
+use Rattle.apdu.specs.Encode.{linkedField, rejectedField, valueField, bodyField, encodeInvoke, encodeResult, encodeError, encodeReject}
+use Rattle.protocol.specs.Check.{usable, valueWell, withinLimits}
+use Rattle.protocol.specs.Receive.{fault, invokeChecks, resultChecks, errorChecks, receiveApdu}
+use Rattle.protocol.specs.Perform.{laterChecks, done, perform}
+
+-- ---- tables: operation 7 of class 2, argument and optional result of type 02
+
+-- errors 1 and 2 without parameter; error 1 is paired with operation 7
+abbrev pub tableO : List ℕ
+tableO =
+    0x00 ∷ 0x01 ∷ 0x00 ∷ 0x10 ∷ 0x00 ∷ 0x02 ∷ 0x00 ∷ 0x18 ∷ 0x00 ∷ 0x01 ∷ 0x00 ∷ 0x24 ∷ 0x00 ∷ 0x00 ∷ 0x00 ∷ 0x28
+    ∷ 0x00 ∷ 0x00 ∷ 0x00 ∷ 0x07 ∷ 0x02 ∷ 0x02 ∷ 0x02 ∷ 0x02
+    ∷ 0x00 ∷ 0x00 ∷ 0x00 ∷ 0x01 ∷ 0x00 ∷ 0x00 ∷ 0x00 ∷ 0x00 ∷ 0x00 ∷ 0x02 ∷ 0x00 ∷ 0x00
+    ∷ 0x00 ∷ 0x00 ∷ 0x00 ∷ 0x00
+    ∷ []
+
+-- error 3 as well, and all three paired with operation 7
+abbrev pub tableN : List ℕ
+tableN =
+    0x00 ∷ 0x01 ∷ 0x00 ∷ 0x10 ∷ 0x00 ∷ 0x03 ∷ 0x00 ∷ 0x18 ∷ 0x00 ∷ 0x03 ∷ 0x00 ∷ 0x2A ∷ 0x00 ∷ 0x00 ∷ 0x00 ∷ 0x36
+    ∷ 0x00 ∷ 0x00 ∷ 0x00 ∷ 0x07 ∷ 0x02 ∷ 0x02 ∷ 0x02 ∷ 0x02
+    ∷ 0x00 ∷ 0x00 ∷ 0x00 ∷ 0x01 ∷ 0x00 ∷ 0x00 ∷ 0x00 ∷ 0x00 ∷ 0x00 ∷ 0x02 ∷ 0x00 ∷ 0x00 ∷ 0x00 ∷ 0x00 ∷ 0x00 ∷ 0x03 ∷ 0x00 ∷ 0x00
+    ∷ 0x00 ∷ 0x00 ∷ 0x00 ∷ 0x00 ∷ 0x00 ∷ 0x00 ∷ 0x00 ∷ 0x01 ∷ 0x00 ∷ 0x00 ∷ 0x00 ∷ 0x02
+    ∷ []
+
+-- the same as tableO, but a result of type 04: no extension of it
+abbrev tableX : List ℕ
+tableX =
+    0x00 ∷ 0x01 ∷ 0x00 ∷ 0x10 ∷ 0x00 ∷ 0x02 ∷ 0x00 ∷ 0x18 ∷ 0x00 ∷ 0x01 ∷ 0x00 ∷ 0x24 ∷ 0x00 ∷ 0x00 ∷ 0x00 ∷ 0x28
+    ∷ 0x00 ∷ 0x00 ∷ 0x00 ∷ 0x07 ∷ 0x02 ∷ 0x02 ∷ 0x04 ∷ 0x02
+    ∷ 0x00 ∷ 0x00 ∷ 0x00 ∷ 0x01 ∷ 0x00 ∷ 0x00 ∷ 0x00 ∷ 0x00 ∷ 0x00 ∷ 0x02 ∷ 0x00 ∷ 0x00
+    ∷ 0x00 ∷ 0x00 ∷ 0x00 ∷ 0x00
+    ∷ []
+
+-- ---- calls
+
+abbrev seven : Code
+seven = record { 0 = 7 }
+
+abbrev errorCode : ℕ → Code
+errorCode n = record { 0 = n }
+
+abbrev three : List ℕ
+three = 0x02 ∷ 0x01 ∷ 0x03 ∷ []
+
+abbrev zero02 : List ℕ
+zero02 = 0x02 ∷ 0x01 ∷ 0x00 ∷ []
+
+abbrev ask : ℕ → Event
+ask i = at kiosk (invoke i seven Absent three 100)
+
+abbrev hear : ℕ → Event
+hear i = at controller (receive (encodeInvoke i Absent seven (some three)) 11)
+
+abbrev giveResult : ℕ → List ℕ → Event
+giveResult i v = at controller (result i v 100)
+
+abbrev giveError : ℕ → ℕ → Event
+giveError i e = at controller (error i (errorCode e) [] 100)
+
+abbrev getResult : ℕ → Option (List ℕ) → Event
+getResult i v = at kiosk (receive (encodeResult i seven v) 11)
+
+abbrev getError : ℕ → ℕ → Event
+getError i e = at kiosk (receive (encodeError i (errorCode e) none) 11)
+
+-- ---- runs, and what becomes of them
+
+pub record Run : Type 0 where
+  pub atKiosk : List ℕ
+  pub atController : List ℕ
+  pub events : List Event
+
+-- the refusal of each call, if it was refused, and the ids of the results and errors that the kiosk showed
+pub record Tells : Type 0 where
+  pub refusals : List (Option Refusal)
+  pub shown : List ℕ
+
+abbrev refusalOf : Answer → Option Refusal
+refusalOf (accepted i s x) = none
+refusalOf (refused r) = some r
+
+abbrev refusalsOf : List ℕ → List ℕ → World → List Event → List (Option Refusal)
+refusalsOf O N w [] = []
+refusalsOf O N w (e ∷ l) = refusalOf (answerTo O N w e) ∷ refusalsOf O N (next O N w e) l
+
+abbrev tells : Run → Tells
+tells r = record { refusals = refusalsOf (r .atKiosk) (r .atController) (begin fresh) (r .events); shown = final (r .atKiosk) (r .atController) (begin fresh) (r .events) .shown }
+
+-- a result is shown once though its APDU arrives twice; an error; an absent result; an unlisted error of each sort
+abbrev pub good : List Event
+good =
+    ask 1 ∷ hear 1 ∷ giveResult 1 zero02 ∷ getResult 1 (some zero02) ∷ getResult 1 (some zero02)
+    ∷ ask 2 ∷ hear 2 ∷ giveError 2 1 ∷ getError 2 1
+    ∷ ask 3 ∷ hear 3 ∷ giveResult 3 [] ∷ getResult 3 none
+    ∷ ask 4 ∷ hear 4 ∷ giveError 4 2 ∷ getError 4 2
+    ∷ ask 5 ∷ hear 5 ∷ giveError 5 3 ∷ getError 5 3
+    ∷ []
+
+-- an id asked twice: the repeat of the first answer is taken for the second
+abbrev reused : List Event
+reused = ask 1 ∷ hear 1 ∷ giveResult 1 zero02 ∷ getResult 1 (some zero02) ∷ ask 1 ∷ getResult 1 (some zero02) ∷ []
+
+-- ten octets lent: a live id's answer is refused
+abbrev cramped : List Event
+cramped = ask 1 ∷ hear 1 ∷ giveResult 1 zero02 ∷ at kiosk (receive (encodeResult 1 seven (some zero02)) 10) ∷ []
+
+-- an APDU that the channel made: a result is shown that nobody gave
+abbrev forged : List Event
+forged = ask 1 ∷ getResult 1 (some zero02) ∷ []
+
+-- an APDU of the kiosk's own, carried back to it: its answer to the controller's invocation 1 is taken for the answer to its own
+abbrev reflected : List Event
+reflected =
+    ask 1
+    ∷ at controller (invoke 1 seven Absent three 100)
+    ∷ at kiosk (receive (encodeInvoke 1 Absent seven (some three)) 11)
+    ∷ at kiosk (result 1 zero02 100)
+    ∷ getResult 1 (some zero02)
+    ∷ []
+
+-- the controller's table is no extension: a live id's result is refused
+abbrev apart : List Event
+apart = ask 1 ∷ hear 1 ∷ giveResult 1 (0x04 ∷ 0x00 ∷ []) ∷ at kiosk (receive (encodeResult 1 seven (some (0x04 ∷ 0x00 ∷ []))) 11) ∷ []
+
+abbrev pub runs : List Run
+runs =
+    record { atKiosk = tableO; atController = tableN; events = good }
+    ∷ record { atKiosk = tableO; atController = tableN; events = reused }
+    ∷ record { atKiosk = tableO; atController = tableN; events = cramped }
+    ∷ record { atKiosk = tableO; atController = tableN; events = forged }
+    ∷ record { atKiosk = tableO; atController = tableN; events = reflected }
+    ∷ record { atKiosk = tableO; atController = tableX; events = apart }
+    ∷ []
+
+abbrev pub told : List Tells
+told =
+    record {
+      refusals =
+          none ∷ none ∷ none ∷ none ∷ some (rejecting (Of 1) 0x82 0)
+          ∷ none ∷ none ∷ none ∷ none
+          ∷ none ∷ none ∷ none ∷ none
+          ∷ none ∷ none ∷ none ∷ some (rejecting (Of 4) 0x83 3)
+          ∷ none ∷ none ∷ none ∷ some (rejecting (Of 5) 0x83 2)
+          ∷ [];
+      shown = 1 ∷ 2 ∷ 3 ∷ [];
+    }
+    ∷ record { refusals = none ∷ none ∷ none ∷ none ∷ none ∷ none ∷ []; shown = 1 ∷ 1 ∷ [] }
+    ∷ record { refusals = none ∷ none ∷ none ∷ some (plain 2) ∷ []; shown = [] }
+    ∷ record { refusals = none ∷ none ∷ []; shown = 1 ∷ [] }
+    ∷ record { refusals = none ∷ none ∷ none ∷ none ∷ none ∷ []; shown = 1 ∷ [] }
+    ∷ record { refusals = none ∷ none ∷ none ∷ some (rejecting (Of 1) 0x82 2) ∷ []; shown = [] }
+    ∷ []
+
+runs-compute : map tells runs ≡ told
+unfolding answerTo pairBelow pairRight numberFrom digits continued oneOf highTag identifierOctets lengthOf lengthCount lengthOctets headerWith headerOf shortest parts contentRule constructed restRight elementsIn elementWith elementOf sizeIn size fills wellFormed elementOctets signOf pattern integerOf fitsOctets octetCount integerOctets every any seek count start place octetAt codeAt hasCode operationAt errorAt firstAt secondAt withinLimit behind laidOut ruleRight operationRight errorRight indexed allowed above rises fieldsRight entryRight partRight valid find operationIn operationOf errorIn errorOf joins joined parentAt hasChild valueRight fieldsWith fieldsIn numberOf numberUnder isCode codeOf codedWith codedOf linkedWith linkedOf invokeWith invokeOf resultWith resultOf errorFrom mostProblem isProblem idAllowed rejectWith rejectBehind rejectOf behindId withId byKind parseAt parse given linkedField rejectedField valueField bodyField encodeInvoke encodeResult encodeError encodeReject usable valueWell withinLimits fault invokeChecks resultChecks errorChecks receiveApdu laterChecks done perform
+runs-compute = refl

@@ -1,0 +1,98 @@
+-- What a call writes and what a state then holds, as the invariant asks for it.
+use Prim.Native.Nat.{ℕ, _-_, _≤_}
+use mathlib.Core.Path.{_≡_, refl, _∙_}
+use mathlib.Core.Bool.{Bool, true, false, cond, not, _&&_}
+use mathlib.Core.List.{List, [], _∷_, _++_}
+use mathlib.Core.Logic.{_≢_}
+use mathlib.Core.Option.{Option, some, none}
+use native.Mathlib.Omega.{arith}
+use lib.ListN.{length, getD}
+use lib.Dec.{leb}
+use borrow.Author.Tests.{leb-true}
+use Rattle.base.proofs.Tests.{and-left, and-right}
+use Rattle.records.specs.declared.Code.{Code}
+use Rattle.records.specs.declared.Record.{Record}
+use Rattle.records.specs.declared.Records.{Records}
+use Rattle.records.specs.declared.State.{State}
+use Rattle.records.specs.Limits.{octets, levels}
+use Rattle.records.specs.Records.{view, added}
+use Rattle.records.specs.State.{addOwn, addPeer}
+use Rattle.records.proofs.Soundness.{Sound, view-added}
+use Rattle.apdu.specs.declared.Number.{Number}
+use Rattle.apdu.specs.declared.Number.the-variants.{Of, Absent}
+use Rattle.apdu.proofs.FirstOctet.{first-reject}
+use Rattle.apdu.proofs.RoundTrip.{NumberFits, ValueFits}
+use Rattle.protocol.specs.Call.{Refusal, plain, rejecting, rejectWritten}
+use Rattle.protocol.specs.Check.{isFull, isSilent, ownRecords, peerRecords, valueWell, withinLimits}
+use Rattle.protocol.specs.Receive.{withPeer}
+use Rattle.protocol.specs.Perform.{withOwn}
+use Rattle.protocol.specs.Demand3.{SmallNumber}
+use Rattle.protocol.proofs.Steady.{Steady, room-left}
+
+-- ---- first octets
+
+-- a refusal writes no Invoke and no answer
+pub refusal-first : (r : Refusal) → (getD (rejectWritten r) 0 0 ≢ 0xA1) × (getD (rejectWritten r) 0 0 ≢ 0xA2) × (getD (rejectWritten r) 0 0 ≢ 0xA3)
+refusal-first (plain n) = (omega arith, omega arith, omega arith)
+refusal-first (rejecting i kind p) =
+    let e = first-reject i kind p in
+    (omega arith, omega arith, omega arith)
+
+-- ---- the limits of what is written
+
+module _ (down : ℕ) (v : Option (List ℕ)) (x : List ℕ) (h : withinLimits down v x ≡ true) where
+  pub limits-size : length x ≤ octets
+  unfolding withinLimits
+  limits-size = leb-true (length x) octets (and-left _ _ h)
+
+  limits-well : valueWell (levels - down) v ≡ true
+  unfolding withinLimits
+  limits-well = and-right (leb (length x) octets) _ h
+
+value-fits : (d : ℕ) (v : Option (List ℕ)) → valueWell d v ≡ true → ValueFits d v
+unfolding valueWell
+value-fits d none h = tt
+value-fits d (some v) h = h
+
+pub limits-value : (down : ℕ) (v : Option (List ℕ)) (x : List ℕ) → withinLimits down v x ≡ true → ValueFits (levels - down) v
+limits-value down v x h = value-fits (levels - down) v (limits-well down v x h)
+
+pub number-fits : (l : Number) → SmallNumber l → NumberFits l
+number-fits Absent h = tt
+number-fits (Of i) h = h
+
+-- ---- the records with a new one last, unless it is silent
+
+side-with : (b : Bool) {d : Records} (r : Record) → Sound d → (not b && isFull (view d)) ≡ false → view (cond b d (added d r)) ≡ cond b (view d) (view d ++ (r ∷ []))
+side-with true r h room = refl
+side-with false {d} r h room = view-added h r (room-left [] false (view d) refl room)
+
+module _ (T : List ℕ) (s : State) (i : ℕ) (c : Code) (h : Steady T s) where
+  pub own-with : (not (isSilent T c) && isFull (ownRecords s)) ≡ false → ownRecords (withOwn T s i c) ≡ cond (isSilent T c) (ownRecords s) (ownRecords s ++ (record { id = i; code = c } ∷ []))
+  own-with room = go (isSilent T c) ∙ side-with (isSilent T c) (record { id = i; code = c }) (h .own .sound) room
+    where
+      go : (b : Bool) → ownRecords (cond b s (addOwn s (record { 0 = i }) c)) ≡ view (cond b (s .own) (added (s .own) (record { id = i; code = c })))
+      go true = refl
+      go false = refl
+
+  pub peer-with : (not (isSilent T c) && isFull (peerRecords s)) ≡ false → peerRecords (withPeer T s i c) ≡ cond (isSilent T c) (peerRecords s) (peerRecords s ++ (record { id = i; code = c } ∷ []))
+  peer-with room = go (isSilent T c) ∙ side-with (isSilent T c) (record { id = i; code = c }) (h .peer .sound) room
+    where
+      go : (b : Bool) → peerRecords (cond b s (addPeer s (record { 0 = i }) c)) ≡ view (cond b (s .peer) (added (s .peer) (record { id = i; code = c })))
+      go true = refl
+      go false = refl
+
+-- the other side stays
+pub own-beside : (T : List ℕ) (s : State) (i : ℕ) (c : Code) → ownRecords (withPeer T s i c) ≡ ownRecords s
+own-beside T s i c = go (isSilent T c)
+  where
+    go : (b : Bool) → ownRecords (cond b s (addPeer s (record { 0 = i }) c)) ≡ ownRecords s
+    go true = refl
+    go false = refl
+
+pub peer-beside : (T : List ℕ) (s : State) (i : ℕ) (c : Code) → peerRecords (withOwn T s i c) ≡ peerRecords s
+peer-beside T s i c = go (isSilent T c)
+  where
+    go : (b : Bool) → peerRecords (cond b s (addOwn s (record { 0 = i }) c)) ≡ peerRecords s
+    go true = refl
+    go false = refl

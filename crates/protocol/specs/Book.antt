@@ -1,0 +1,226 @@
+-- The two ends, the channel and the book: document 01, 'The book for demand 3'. Wire, asked, heard, given and live are that part's own terms.
+use Prim.Native.Nat.{ℕ}
+use mathlib.Core.Bool.{Bool, true, false, cond, not, _&&_, _||_}
+use mathlib.Core.List.{List, [], _∷_, _++_}
+use mathlib.Core.Option.{Option, some, none}
+use lib.Dec.{eqb}
+use Rattle.records.specs.declared.Code.{Code}
+use Rattle.records.specs.declared.Record.{Record}
+use Rattle.records.specs.declared.State.{State}
+use Rattle.apdu.specs.declared.Number.the-variants.{Of, Absent}
+use Rattle.apdu.specs.Parse.{Apdu, badlyStructured, unrecognized, mistyped, parse, invoke as Invoke, result as Result, error as Error, reject as Reject}
+use Rattle.ber.specs.Element.{given}
+use Rattle.protocol.specs.Call.{own, peer, Call, receive, invoke, result, error, reject, forget, Indication, invoked, resulted, erred, rejectedU, rejectedP, Answer, isRefused, indicatedBy, writtenBy, stateAfter}
+use Rattle.protocol.specs.Check.{isSilent}
+use Rattle.protocol.specs.Receive.{fieldCode, bodyValue}
+use Rattle.protocol.specs.Perform.{perform}
+
+-- ---- ids
+
+abbrev pub idsOf : List Record → List ℕ
+idsOf [] = []
+idsOf (r ∷ l) = r .id ∷ idsOf l
+
+abbrev pub among : ℕ → List ℕ → Bool
+among i [] = false
+among i (x ∷ l) = eqb x i || among i l
+
+abbrev pub leaving : ℕ → List ℕ → List ℕ
+leaving i [] = []
+leaving i (x ∷ l) = cond (eqb x i) (leaving i l) (x ∷ leaving i l)
+
+-- no id stands twice
+abbrev pub eachOnce : List ℕ → Bool
+eachOnce [] = true
+eachOnce (x ∷ l) = not (among x l) && eachOnce l
+
+-- the code last noted with an id
+abbrev pub lastCode : ℕ → List Record → Code
+lastCode i [] = record { 0 = 0 }
+lastCode i (r ∷ l) = cond (among i (idsOf l)) (lastCode i l) (r .code)
+
+-- ---- the list of calls: each names its end
+
+pub data End : Type 0 where
+  kiosk controller : End
+
+abbrev pub other : End → End
+other kiosk = controller
+other controller = kiosk
+
+pub data Event : Type 0 where
+  at : End → Call → Event
+
+-- ---- the book
+
+pub data Kind : Type 0 where
+  aResult anError : Kind
+
+-- a result or an error: id, operation, kind, error code or none, value octets or none
+pub record Given : Type 0 where
+  pub id : ℕ
+  pub operation : Code
+  pub kind : Kind
+  pub error : Option Code
+  pub value : Option (List ℕ)
+
+-- an APDU written, with its end
+pub record Wired : Type 0 where
+  pub from : End
+  pub apdu : List ℕ
+
+abbrev pub wired : End → List ℕ → Wired
+wired e x = record { from = e; apdu = x }
+
+-- what was given, and the answer: the APDU that it wrote
+pub record Answered : Type 0 where
+  pub given : Given
+  pub apdu : List ℕ
+
+pub record Book : Type 0 where
+  pub wire : List Wired
+  pub asked : List Record
+  pub heard : List Record
+  pub given : List Answered
+  pub live : List ℕ
+
+-- it starts empty
+abbrev pub emptyBook : Book
+emptyBook = record { wire = []; asked = []; heard = []; given = []; live = [] }
+
+-- ---- what an accepted call adds, by its arguments and what it wrote
+
+-- asked: id and code of each accepted invoke request of the kiosk
+abbrev pub asking : End → Call → List Record → List Record
+asking kiosk (invoke i c l v room) asked = asked ++ (record { id = i; code = c } ∷ [])
+asking kiosk (receive x room) asked = asked
+asking kiosk (result i v room) asked = asked
+asking kiosk (error i e v room) asked = asked
+asking kiosk (reject i p room) asked = asked
+asking kiosk (forget side i) asked = asked
+asking controller c asked = asked
+
+-- heard: id and code of each Invoke the controller's receive accepted
+abbrev pub hearingOf : Apdu → List Record → List Record
+hearingOf badlyStructured heard = heard
+hearingOf unrecognized heard = heard
+hearingOf (mistyped i) heard = heard
+hearingOf (Invoke i l c v) heard = heard ++ (record { id = i; code = fieldCode c } ∷ [])
+hearingOf (Result i b) heard = heard
+hearingOf (Error i e v) heard = heard
+hearingOf (Reject i kind p) heard = heard
+
+abbrev pub hearing : End → Call → List Record → List Record
+hearing kiosk c heard = heard
+hearing controller (receive x room) heard = hearingOf (parse x) heard
+hearing controller (invoke i c l v room) heard = heard
+hearing controller (result i v room) heard = heard
+hearing controller (error i e v room) heard = heard
+hearing controller (reject i p room) heard = heard
+hearing controller (forget side i) heard = heard
+
+-- given: each accepted result or error request of the controller, with the code last heard with that id, and the octets that it wrote
+abbrev pub giving : List Record → End → Call → List ℕ → List Answered → List Answered
+giving heard kiosk c x l = l
+giving heard controller (result i v room) x l = l ++ (record { given = record { id = i; operation = lastCode i heard; kind = aResult; error = none; value = given v }; apdu = x } ∷ [])
+giving heard controller (error i e v room) x l = l ++ (record { given = record { id = i; operation = lastCode i heard; kind = anError; error = some e; value = given v }; apdu = x } ∷ [])
+giving heard controller (receive y room) x l = l
+giving heard controller (invoke i c k v room) x l = l
+giving heard controller (reject i p room) x l = l
+giving heard controller (forget side i) x l = l
+
+-- live: an id leaves when the kiosk accepts a result, an error or an invoke problem Reject with that id
+abbrev pub leavingBy : Apdu → List ℕ → List ℕ
+leavingBy badlyStructured l = l
+leavingBy unrecognized l = l
+leavingBy (mistyped i) l = l
+leavingBy (Invoke i k c v) l = l
+leavingBy (Result i b) l = leaving i l
+leavingBy (Error i e v) l = leaving i l
+leavingBy (Reject Absent kind p) l = l
+leavingBy (Reject (Of i) kind p) l = cond (eqb kind 0x81) (leaving i l) l
+
+-- it enters with an accepted invoke request of the kiosk, class in O not 5, and leaves also with a forget of it on its own side
+abbrev pub living : List ℕ → End → Call → List ℕ → List ℕ
+living O controller c l = l
+living O kiosk (receive x room) l = leavingBy (parse x) l
+living O kiosk (invoke i c k v room) l = cond (isSilent O c) l (l ++ (i ∷ []))
+living O kiosk (result i v room) l = l
+living O kiosk (error i e v room) l = l
+living O kiosk (reject i p room) l = l
+living O kiosk (forget own i) l = leaving i l
+living O kiosk (forget peer i) l = l
+
+-- wire: each APDU written; the Reject of an 18 counts
+abbrev pub wiring : End → List ℕ → List Wired → List Wired
+wiring e [] wire = wire
+wiring e (b ∷ x) wire = wire ++ (wired e (b ∷ x) ∷ [])
+
+-- the book is fed each call's arguments, whether it was refused, and what it wrote; a refused call changes only wire
+abbrev pub note : List ℕ → Book → Event → Bool → List ℕ → Book
+note O b (at e c) true x = record { wire = wiring e x (b .wire); asked = b .asked; heard = b .heard; given = b .given; live = b .live }
+note O b (at e c) false x = record {
+  wire = wiring e x (b .wire);
+  asked = asking e c (b .asked);
+  heard = hearing e c (b .heard);
+  given = giving (b .heard) e c x (b .given);
+  live = living O e c (b .live);
+}
+
+-- ---- the run
+
+-- the two states, the book, and the ids of the results and errors that the kiosk indicated so far
+pub record World : Type 0 where
+  pub kiosk : State
+  pub controller : State
+  pub book : Book
+  pub shown : List ℕ
+
+abbrev pub begin : State → World
+begin s = record { kiosk = s; controller = s; book = emptyBook; shown = [] }
+
+-- the result or error that an indication shows
+abbrev pub shownBy : Option Indication → Option Given
+shownBy none = none
+shownBy (some (invoked i l c v)) = none
+shownBy (some (resulted i b c)) = some (record { id = i; operation = c; kind = aResult; error = none; value = bodyValue b })
+shownBy (some (erred i e v c)) = some (record { id = i; operation = c; kind = anError; error = some e; value = v })
+shownBy (some (rejectedU i kind p)) = none
+shownBy (some (rejectedP i p)) = none
+
+abbrev pub showing : Option Given → List ℕ → List ℕ
+showing none shown = shown
+showing (some g) shown = shown ++ (g .id ∷ [])
+
+-- after a call that was answered so
+abbrev pub after : List ℕ → World → Event → Answer → World
+after O w (at kiosk c) a = record {
+  kiosk = stateAfter (w .kiosk) a;
+  controller = w .controller;
+  book = note O (w .book) (at kiosk c) (isRefused a) (writtenBy a);
+  shown = showing (shownBy (indicatedBy a)) (w .shown);
+}
+after O w (at controller c) a = record {
+  kiosk = w .kiosk;
+  controller = stateAfter (w .controller) a;
+  book = note O (w .book) (at controller c) (isRefused a) (writtenBy a);
+  shown = w .shown;
+}
+
+-- each end keeps its table, O at the kiosk and N at the controller, and gives each call the state its last one returned
+module _ (O N : List ℕ) where
+  unfoldable pub answerTo : World → Event → Answer
+  answerTo w (at kiosk c) = perform O (w .kiosk) c
+  answerTo w (at controller c) = perform N (w .controller) c
+
+  abbrev pub next : World → Event → World
+  next w e = after O w e (answerTo w e)
+
+  -- what holds of each call along the list
+  abbrev pub Along : (World → Event → Type 0) → World → List Event → Type 0
+  Along P w [] = Unit {0}
+  Along P w (e ∷ l) = P w e × Along P (next w e) l
+
+  abbrev pub final : World → List Event → World
+  final w [] = w
+  final w (e ∷ l) = final (next w e) l

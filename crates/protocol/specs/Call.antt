@@ -1,0 +1,78 @@
+-- The six calls and what one answers: document 01, 'What is built' and 'Requests'.
+use Prim.Native.Nat.{ℕ}
+use mathlib.Core.Bool.{Bool, true, false}
+use mathlib.Core.List.{List, []}
+use mathlib.Core.Option.{Option, none}
+use Rattle.records.specs.declared.Code.{Code}
+use Rattle.records.specs.declared.State.{State}
+use Rattle.apdu.specs.declared.Number.{Number}
+use Rattle.apdu.specs.Parse.{CodedValue}
+use Rattle.apdu.specs.Encode.{encodeReject}
+
+-- whose records are meant
+pub data Side : Type 0 where
+  own peer : Side
+
+-- a call with its arguments but the state; a given value is empty for none, and `room` is how many output octets are lent
+pub data Call : Type 0 where
+  -- octets, room
+  receive : List ℕ → ℕ → Call
+  -- id, code, linked id, value, room
+  invoke : ℕ → Code → Number → List ℕ → ℕ → Call
+  -- id, value, room
+  result : ℕ → List ℕ → ℕ → Call
+  -- id, error code, value, room
+  error : ℕ → Code → List ℕ → ℕ → Call
+  -- id, problem, room
+  reject : ℕ → ℕ → ℕ → Call
+  -- side, id
+  forget : Side → ℕ → Call
+
+-- what a received APDU is indicated as: every field, absent ones as none; a result and an error also with the record's operation code
+pub data Indication : Type 0 where
+  -- id, linked id, operation code, argument
+  invoked : ℕ → Number → Code → Option (List ℕ) → Indication
+  -- id, code and value, the record's operation code
+  resulted : ℕ → Option CodedValue → Code → Indication
+  -- id, error code, parameter, the record's operation code
+  erred : ℕ → Code → Option (List ℕ) → Code → Indication
+  -- RO-REJECT-U: id, the problem's kind 81 to 83, the problem
+  rejectedU : ℕ → ℕ → ℕ → Indication
+  -- RO-REJECT-P: id, the general problem
+  rejectedP : Number → ℕ → Indication
+
+-- a refusal: one of document 01's numbers; 18 also returns the problem's kind and number, and the id that its Reject carries
+pub data Refusal : Type 0 where
+  plain : ℕ → Refusal
+  rejecting : Number → ℕ → ℕ → Refusal
+
+-- what a call answers: accepted with what it indicates, the new state and the octets that it wrote, or refused
+pub data Answer : Type 0 where
+  accepted : Option Indication → State → List ℕ → Answer
+  refused : Refusal → Answer
+
+abbrev pub refusalNumber : Refusal → ℕ
+refusalNumber (plain n) = n
+refusalNumber (rejecting i kind problem) = 18
+
+-- a refusal writes nothing, except that 18 writes the Reject
+abbrev pub rejectWritten : Refusal → List ℕ
+rejectWritten (plain n) = []
+rejectWritten (rejecting i kind problem) = encodeReject i kind problem
+
+abbrev pub isRefused : Answer → Bool
+isRefused (accepted i s x) = false
+isRefused (refused r) = true
+
+abbrev pub indicatedBy : Answer → Option Indication
+indicatedBy (accepted i s x) = i
+indicatedBy (refused r) = none
+
+abbrev pub writtenBy : Answer → List ℕ
+writtenBy (accepted i s x) = x
+writtenBy (refused r) = rejectWritten r
+
+-- a refusal hands back the same records
+abbrev pub stateAfter : State → Answer → State
+stateAfter s (accepted i t x) = t
+stateAfter s (refused r) = s
