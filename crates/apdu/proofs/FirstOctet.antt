@@ -34,7 +34,7 @@ kindOctet (error i c v) = 0xA3
 kindOctet (reject i k p) = 0xA4
 
 -- an APDU of the kind that t says, or of none
-abbrev Says : ℕ → Apdu → Type 0
+abbrev pub Says : ℕ → Apdu → Type 0
 Says t a = (kindOctet a ≡ 0) ⊎ (kindOctet a ≡ t)
 
 says-coded : (i : ℕ) (l : Number) (c : Coded) → Says 0xA1 (invokeWith i l c) × Says 0xA2 (resultWith i c) × Says 0xA3 (errorOf i c)
@@ -82,7 +82,7 @@ says-id t (Of i) fs l h =
     (λ e. says-as t 0xA2 (resultOf i fs) (eqb-true t 0xA2 e) (says-result i fs))
     (λ y. says-as t 0xA3 (errorOf i (codedOf fs)) (omega (arith, eqb-false t 0xA1 x, eqb-false t 0xA2 y)) (says-coded i Absent (codedOf fs) .2)))
 
-says-with : (t : ℕ) (fs : List Field) → 0xA1 ≤ t → t ≤ 0xA3 → Says t (withId t fs)
+pub says-with : (t : ℕ) (fs : List Field) → 0xA1 ≤ t → t ≤ 0xA3 → Says t (withId t fs)
 unfolding withId
 says-with t [] l h = inl refl
 says-with t (f ∷ fs) l h = says-id t (idOf f) fs l h

@@ -3,6 +3,7 @@ pub mod FieldLaws
 pub mod SizeLaws
 pub mod RoundTrip
 pub mod FirstOctet
+pub mod RejectKind
 mod PartLaws
 mod FieldAnswers
 mod ParseAnswers

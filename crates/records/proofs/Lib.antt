@@ -1,3 +1,3 @@
 pub mod Laws
 pub mod Soundness
-mod Steps
+pub mod Steps

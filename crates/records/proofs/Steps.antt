@@ -42,7 +42,7 @@ module _ (s : Records) (i : ℕ) (p : i < length (view s)) where
   at-live : i < s .count
   at-live = omega (arith, length-take (s .count) (s .places))
 
-  left-at : drop i (view s) ≡ getD (s .places) i unused ∷ drop (i + 1) (view s)
+  pub left-at : drop i (view s) ≡ getD (s .places) i unused ∷ drop (i + 1) (view s)
   left-at =
       let q = at-live in
       rw (add-one, drop-cons (view s) i unused, getD-take)

@@ -67,7 +67,7 @@ impl Records {
     }
 
     // How many records are live: a count over the limit counts every place.
-    fn live(self) -> usize
+    pub fn live(self) -> usize
         ensures { λ r. ⌜ (r ≡ length (view self)) × (r ≤ records) ⌝ }
     {
         if self.count < State::RECORDS {
