@@ -1,0 +1,11 @@
+mod Verdicts
+mod UsableAnswers
+mod PartAnswers
+mod RequestAnswers
+mod LinkedAnswers
+mod ArrivalAnswers
+mod Arrivals
+mod ByKind
+mod Written
+mod Calls
+mod Requests

@@ -1,0 +1,128 @@
+-- What each way through the code of usable.rt answers.
+use Prim.Native.Nat.{ℕ, _+_, _≤_, _<_}
+use mathlib.Core.Path.{_≡_, refl, sym, ap, _∙_}
+use mathlib.Core.Bool.{Bool, true, false, cond, _&&_, _||_}
+use mathlib.Core.List.{List, [], _∷_}
+use mathlib.Core.Option.{none}
+use lib.ListN.{length, drop, getD, drop-of-length-le}
+use lib.Dec.{eqb}
+use borrow.Author.Tests.{eq-eqb, ne-eqb, not-false}
+use Rattle.base.proofs.Tests.{cond-true, cond-false, and-left, and-false-left, and-false-right}
+use Rattle.records.specs.declared.Code.{Code}
+use Rattle.records.specs.declared.Record.{Record}
+use Rattle.records.specs.declared.Records.{Records}
+use Rattle.records.specs.declared.State.{State}
+use Rattle.records.specs.declared.Found.the-variants.{Operation}
+use Rattle.records.specs.Records.{unused, view, member, lookup}
+use Rattle.records.specs.State.{soundState, addOwn, addPeer}
+use Rattle.records.proofs.Steps.{left-at}
+use Rattle.optable.specs.declared.Operation.{Operation as Named}
+use Rattle.optable.specs.Validity.{valid}
+use Rattle.optable.specs.Lookup.{operationOf, listed, classOf}
+use Rattle.protocol.specs.declared.Refusal.the-variants.{InvalidTable, UnsoundState}
+use Rattle.protocol.specs.Check.{covered, usable, isBusy, isSilent, shared, ownRecords, peerRecords}
+use Rattle.protocol.specs.Receive.{withPeer}
+use Rattle.protocol.specs.Perform.{withOwn}
+use Rattle.protocol.specs.Reading.{readRefusal}
+use Rattle.rose.proofs.Verdicts.{none-passes}
+use Rattle.rose.specs.declared.Verdict.the-variants.{Passes, Fails}
+use Rattle.rose.specs.Verdict.{first, readVerdict, isFound}
+
+-- ---- a record found is a member
+
+pub found-member : (n : ℕ) (l : List Record) → isFound (lookup n l) ≡ member n l
+found-member n [] = refl
+found-member n (r ∷ l) = go (eqb (r .id) n) (found-member n l)
+  where
+    go : (b : Bool) → isFound (lookup n l) ≡ member n l → isFound (cond b (Operation (r .code)) (lookup n l)) ≡ (b || member n l)
+    go true ih = refl
+    go false ih = ih
+
+-- ---- one turn of the loops over a side, o being the operation of the record at i
+
+module _ (T : List ℕ) (s : Records) (i : ℕ) (p : i < length (view s)) (o : Named) (e : o ≡ operationOf T (getD (s .places) i unused .code)) where
+  covered-at : covered T (drop i (view s)) ≡ (listed o && covered T (drop (i + 1) (view s)))
+  covered-at = ap (covered T) (left-at s i p) ∙ ap (λ (n : Named). listed n && covered T (drop (i + 1) (view s))) (sym e)
+
+  pub covered-not : listed o ≡ false → covered T (drop i (view s)) ≡ false
+  covered-not h = covered-at ∙ ap (λ (b : Bool). b && covered T (drop (i + 1) (view s))) h
+
+  pub covered-next : listed o ≡ true → covered T (drop i (view s)) ≡ covered T (drop (i + 1) (view s))
+  covered-next h = covered-at ∙ ap (λ (b : Bool). b && covered T (drop (i + 1) (view s))) h
+
+  busy-at : isBusy T (drop i (view s)) ≡ (eqb (classOf o) 1 || isBusy T (drop (i + 1) (view s)))
+  busy-at = ap (isBusy T) (left-at s i p) ∙ ap (λ (n : Named). eqb (classOf n) 1 || isBusy T (drop (i + 1) (view s))) (sym e)
+
+  pub busy-here : classOf o ≡ 1 → isBusy T (drop i (view s)) ≡ true
+  busy-here h = busy-at ∙ ap (λ (b : Bool). b || isBusy T (drop (i + 1) (view s))) (eq-eqb (classOf o) 1 h)
+
+  pub busy-next : (classOf o ≡ 1 → ⊥) → isBusy T (drop i (view s)) ≡ isBusy T (drop (i + 1) (view s))
+  busy-next h = busy-at ∙ ap (λ (b : Bool). b || isBusy T (drop (i + 1) (view s))) (ne-eqb (classOf o) 1 h)
+
+pub covered-end : (T : List ℕ) (l : List Record) (i : ℕ) → length l ≤ i → covered T (drop i l) ≡ true
+covered-end T l i h = ap (covered T) (drop-of-length-le l h)
+
+pub busy-end : (T : List ℕ) (l : List Record) (i : ℕ) → length l ≤ i → isBusy T (drop i l) ≡ false
+busy-end T l i h = ap (isBusy T) (drop-of-length-le l h)
+
+-- ---- 19 and 1
+
+module _ (T : List ℕ) (s : State) where
+  not-valid : valid T ≡ false → usable T s ≡ false
+  unfolding usable
+  not-valid v = and-false-left (valid T) _ v
+
+  not-own : covered T (ownRecords s) ≡ false → usable T s ≡ false
+  unfolding usable
+  not-own o = and-false-right (valid T) _ (and-false-left (covered T (ownRecords s)) _ o)
+
+  not-peer : covered T (peerRecords s) ≡ false → usable T s ≡ false
+  unfolding usable
+  not-peer q = and-false-right (valid T) _ (and-false-right (covered T (ownRecords s)) _ q)
+
+  pub unsound : soundState s ≡ false → readVerdict (Fails UnsoundState) ≡ first (shared T s)
+  unfolding readVerdict readRefusal
+  unsound h = rw h refl
+
+  module _ (h : soundState s ≡ true) where
+    unusable : usable T s ≡ false → readVerdict (Fails InvalidTable) ≡ first (shared T s)
+    unfolding readVerdict readRefusal
+    unusable u = rw (h, u) refl
+
+    pub invalid : valid T ≡ false → readVerdict (Fails InvalidTable) ≡ first (shared T s)
+    invalid v = unusable (not-valid v)
+
+    module _ (v : valid T ≡ true) where
+      pub own-lacking : covered T (ownRecords s) ≡ false → readVerdict (Fails InvalidTable) ≡ first (shared T s)
+      own-lacking o = unusable (not-own o)
+
+      module _ (o : covered T (ownRecords s) ≡ true) where
+        pub peer-lacking : covered T (peerRecords s) ≡ false → readVerdict (Fails InvalidTable) ≡ first (shared T s)
+        peer-lacking q = unusable (not-peer q)
+
+        pub all-clear : covered T (peerRecords s) ≡ true → readVerdict Passes ≡ first (shared T s)
+        unfolding readVerdict usable
+        all-clear q = rw (h, v, o, q) refl
+
+-- and back: where neither is given the table is valid
+pub opened-valid : (T : List ℕ) (s : State) → first (shared T s) ≡ none → valid T ≡ true
+unfolding usable
+opened-valid T s e = and-left _ _ (not-false (valid T && (covered T (ownRecords s) && covered T (peerRecords s))) (none-passes (shared T s) e .1 .0))
+
+-- ---- a record more, unless the class makes none
+
+module _ (T : List ℕ) (s : State) (i : ℕ) (c : Code) (o : Named) (e : o ≡ operationOf T c) where
+  silent-is : (b : Bool) → eqb (classOf o) 5 ≡ b → isSilent T c ≡ b
+  silent-is b q = ap (λ (n : Named). eqb (classOf n) 5) (sym e) ∙ q
+
+  pub own-silent : classOf o ≡ 5 → s ≡ withOwn T s i c
+  own-silent h = cond-true s _ (silent-is true (eq-eqb (classOf o) 5 h))
+
+  pub own-recorded : (classOf o ≡ 5 → ⊥) → addOwn s (record { 0 = i }) c ≡ withOwn T s i c
+  own-recorded h = cond-false s _ (silent-is false (ne-eqb (classOf o) 5 h))
+
+  pub peer-silent : classOf o ≡ 5 → s ≡ withPeer T s i c
+  peer-silent h = cond-true s _ (silent-is true (eq-eqb (classOf o) 5 h))
+
+  pub peer-recorded : (classOf o ≡ 5 → ⊥) → addPeer s (record { 0 = i }) c ≡ withPeer T s i c
+  peer-recorded h = cond-false s _ (silent-is false (ne-eqb (classOf o) 5 h))

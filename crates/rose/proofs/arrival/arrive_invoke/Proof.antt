@@ -1,0 +1,43 @@
+-- A problem, or an indication.
+use mathlib.Core.Path.{_≡_}
+use Rattle.rose.specs.declared.Verdict.the-variants.{Passes}
+use Rattle.rose.proofs.ByKind.{invoke-refused, invoke-indicated}
+use borrow.Author.Needs.{needs}
+use Rattle.rose.proofs.arrival.arrive_invoke.Statement.{statement}
+use Rattle.rose.proofs.arrival.arrive_invoke.Tie as tie
+
+check-invoke-requires : tie.Need-check-invoke-requires
+check-invoke-requires c κs = search needs
+
+enum-known-why : tie.Need-enum-known-why
+enum-known-why c = search needs
+
+refused-requires : tie.Need-refused-requires
+refused-requires c κs = search needs
+
+enum-told : tie.Need-enum-told
+enum-told c = search needs
+
+field-code-requires : tie.Need-field-code-requires
+field-code-requires c κs = search needs
+
+with-peer-requires : tie.Need-with-peer-requires
+with-peer-requires c κs = search needs
+
+own-link-requires : tie.Need-own-link-requires
+own-link-requires c κs = search needs
+
+indicated-requires : tie.Need-indicated-requires
+indicated-requires c κs = search needs
+
+returns : tie.Need-returns
+returns c = invoke-refused ((c .before .before .before .before .before .before .before .args .table) .now) (c .before .before .before .before .before .before .before .args .state) ((c .before .before .before .before .before .before .before .args .x) .now) (c .before .before .before .before .before .before .before .args .id) (c .before .before .before .before .before .before .before .args .linked) (c .before .before .before .before .before .before .before .args .field) (c .before .before .before .before .before .before .before .args .value) (c .before .before .before .before .check-invoke .result) (c .before .before .before .before .check-invoke .ensures) _ (c .before .before .why .given .0 .0) (cc) (c .refused .ensures)
+
+passed : (a : tie.After-enum-told) → a .before .before .check-invoke .result ≡ Passes
+passed a = cc
+
+returns-2 : tie.Need-returns-2
+returns-2 c = invoke-indicated ((c .before .before .before .before .before .before .before .before .before .args .table) .now) (c .before .before .before .before .before .before .before .before .before .args .state) ((c .before .before .before .before .before .before .before .before .before .args .x) .now) (c .before .before .before .before .before .before .before .before .before .args .id) (c .before .before .before .before .before .before .before .before .before .args .linked) (c .before .before .before .before .before .before .before .before .before .args .field) (c .before .before .before .before .before .before .before .before .before .args .value) (c .before .before .before .before .before .before .check-invoke .result) (c .before .before .before .before .before .before .check-invoke .ensures) _ (passed (c .before .before .before .before)) (c .before .before .before .field-code .result) (c .before .before .before .field-code .ensures) (c .before .own-link .result) (c .before .own-link .ensures) (c .before .before .with-peer .result) (c .before .before .with-peer .ensures) (c .indicated .ensures)
+
+pub arrive-invoke-spec : {M : Type 1} → statement M
+arrive-invoke-spec = tie.close (tie.spec check-invoke-requires enum-known-why refused-requires enum-told field-code-requires with-peer-requires own-link-requires indicated-requires returns returns-2)

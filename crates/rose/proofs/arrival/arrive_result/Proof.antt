@@ -1,0 +1,35 @@
+-- A problem, or an indication.
+use Rattle.rose.proofs.ByKind.{result-refused, result-indicated}
+use borrow.Author.Needs.{needs}
+use Rattle.rose.proofs.arrival.arrive_result.Statement.{statement}
+use Rattle.rose.proofs.arrival.arrive_result.Tie as tie
+
+check-result-requires : tie.Need-check-result-requires
+check-result-requires c κs = search needs
+
+enum-known-why : tie.Need-enum-known-why
+enum-known-why c = search needs
+
+refused-requires : tie.Need-refused-requires
+refused-requires c κs = search needs
+
+enum-told : tie.Need-enum-told
+enum-told c = search needs
+
+own-code-requires : tie.Need-own-code-requires
+own-code-requires c κs = search needs
+
+retire-own-requires : tie.Need-retire-own-requires
+retire-own-requires c κs = search needs
+
+indicated-requires : tie.Need-indicated-requires
+indicated-requires c κs = search needs
+
+returns : tie.Need-returns
+returns c = result-refused ((c .before .before .before .before .before .before .before .args .table) .now) (c .before .before .before .before .before .before .before .args .state) ((c .before .before .before .before .before .before .before .args .x) .now) (c .before .before .before .before .before .before .before .args .id) (c .before .before .before .before .before .before .before .args .body) (c .before .before .before .before .check-result .result) (c .before .before .before .before .check-result .ensures) _ (c .before .before .why .given .0 .0) (cc) (c .refused .ensures)
+
+returns-2 : tie.Need-returns-2
+returns-2 c = result-indicated ((c .before .before .before .before .before .before .before .before .args .table) .now) (c .before .before .before .before .before .before .before .before .args .state) ((c .before .before .before .before .before .before .before .before .args .x) .now) (c .before .before .before .before .before .before .before .before .args .id) (c .before .before .before .before .before .before .before .before .args .body) (c .before .before .before .before .before .check-result .result) (c .before .before .before .before .before .check-result .ensures) _ (cc) (c .before .before .own-code .result) (c .before .before .own-code .ensures) (c .before .retire-own .result) (c .before .retire-own .ensures) (c .indicated .ensures)
+
+pub arrive-result-spec : {M : Type 1} → statement M
+arrive-result-spec = tie.close (tie.spec check-result-requires enum-known-why refused-requires enum-told own-code-requires retire-own-requires indicated-requires returns returns-2)

@@ -1,0 +1,27 @@
+use Rattle.rose.proofs.Arrivals.{is-wrong, fault-reject, fault-other}
+-- By the first octet.
+use mathlib.Core.Path.{sym, _∙_}
+use Rattle.protocol.specs.Call.{refused}
+use borrow.Author.Needs.{needs}
+use Rattle.rose.proofs.arrival.arrive_wrong.Statement.{statement}
+use Rattle.rose.proofs.arrival.arrive_wrong.Tie as tie
+
+starts-reject-requires : tie.Need-starts-reject-requires
+starts-reject-requires c κs = search needs
+
+refused-requires : tie.Need-refused-requires
+refused-requires c κs = search needs
+
+returns : tie.Need-returns
+returns c = is-wrong ((c .before .before .before .before .args .x) .now) (c .before .before .before .before .args .state) _ _ _ (c .refused .ensures) (fault-reject ((c .before .before .before .before .args .x) .now) (c .before .before .before .before .args .number) (c .before .before .before .before .args .id) (sym (c .before .before .starts-reject .ensures) ∙ c .before .if1 .taken))
+
+refused-requires-2 : tie.Need-refused-requires-2
+refused-requires-2 c κs = search needs
+
+returns-2 : tie.Need-returns-2
+returns-2 c = is-wrong ((c .before .before .before .before .args .x) .now) (c .before .before .before .before .args .state) _ _ _ (c .refused2 .ensures) (fault-other ((c .before .before .before .before .args .x) .now) (c .before .before .before .before .args .number) (c .before .before .before .before .args .id) (sym (c .before .before .starts-reject .ensures) ∙ c .before .if1 .left))
+
+pub arrive-wrong-spec : {M : Type 1} → statement M
+arrive-wrong-spec =
+    tie.close
+    (tie.spec starts-reject-requires refused-requires returns refused-requires-2 returns-2)

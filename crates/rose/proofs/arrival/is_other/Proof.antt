@@ -1,0 +1,48 @@
+use Rattle.records.specs.Records.{sameCode}
+use Rattle.records.specs.declared.Code.{Code}
+use mathlib.Core.Bool.{not}
+use mathlib.Core.Path.{sym, ap, _∙_}
+-- A code of another form is not the record's.
+use Rattle.apdu.specs.Reading.{readBody}
+use Rattle.rose.proofs.Arrivals.{other-local, other-form}
+use borrow.Author.Needs.{needs}
+use Rattle.rose.proofs.arrival.is_other.Statement.{statement}
+use Rattle.rose.proofs.arrival.is_other.Tie as tie
+
+enum-told : tie.Need-enum-told
+enum-told c = search needs
+
+enum-known-body : tie.Need-enum-known-body
+enum-known-body c = search needs
+
+is-local-requires : tie.Need-is-local-requires
+is-local-requires c κs = search needs
+
+field-code-requires : tie.Need-field-code-requires
+field-code-requires c κs = search needs
+
+same-requires : tie.Need-same-requires
+same-requires c κs = search needs
+
+returns : tie.Need-returns
+returns c = λ x. ap not (c .same .ensures ∙ ap (λ (k : Code). sameCode k (c .before .before .before .before .before .before .before .args .code)) (c .before .field-code .ensures)) ∙ other-local x (c .before .before .before .before .before .before .before .args .body) (c .before .before .before .before .before .body .given .0 .0) (c .before .before .before .before .before .body .given .0 .1 .0) (c .before .before .before .before .before .before .before .args .code) (cc) ((sym (c .before .before .before .is-local .ensures) ∙ c .before .before .if1 .taken))
+
+returns-2 : tie.Need-returns-2
+unfolding readBody
+returns-2 c = λ x. cc
+
+returns-3 : tie.Need-returns-3
+returns-3 c = λ x. other-form x (c .before .before .before .before .before .args .body) (c .before .before .before .body .given .0 .0) (c .before .before .before .body .given .0 .1 .0) (c .before .before .before .before .before .args .code) (cc) ((sym (c .before .is-local .ensures) ∙ c .if1 .left))
+
+pub is-other-spec : {M : Type 1} → statement M
+is-other-spec =
+    tie.close
+    (tie.spec
+    enum-told
+    enum-known-body
+    is-local-requires
+    field-code-requires
+    same-requires
+    returns
+    returns-2
+    returns-3)

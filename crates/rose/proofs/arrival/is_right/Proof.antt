@@ -1,0 +1,54 @@
+use Rattle.rose.proofs.Arrivals.{right-absent, right-empty, right-octets}
+-- No value, a value of no octets, or one with some.
+use borrow.Author.Needs.{needs}
+use Rattle.rose.proofs.arrival.is_right.Statement.{statement}
+use Rattle.rose.proofs.arrival.is_right.Tie as tie
+
+enum-told : tie.Need-enum-told
+enum-told c = search needs
+
+sub-value-right : tie.Need-sub-value-right
+sub-value-right c = search needs
+
+part-value-right-start : tie.Need-part-value-right-start
+part-value-right-start c = search needs
+
+part-value-right-end : tie.Need-part-value-right-end
+part-value-right-end c = search needs
+
+value-right-requires : tie.Need-value-right-requires
+value-right-requires c κs = search needs
+
+enum-known-value : tie.Need-enum-known-value
+enum-known-value c = search needs
+
+octets-of-requires : tie.Need-octets-of-requires
+octets-of-requires c κs = search needs
+
+returns : tie.Need-returns
+returns c = right-empty ((c .before .before .before .before .before .before .args .x) .now) (c .before .before .before .before .before .before .args .rule) (c .before .before .before .before .before .before .args .value) (c .before .before .before .value .given .0 .0) (cc) _ (c .before .octets-of .ensures) (c .if1 .taken)
+
+value-right-requires-2 : tie.Need-value-right-requires-2
+value-right-requires-2 c κs = search needs
+
+returns-2 : tie.Need-returns-2
+returns-2 c = right-absent ((c .before .before .before .before .before .args .x) .now) (c .before .before .before .before .before .args .rule) (c .before .before .before .before .before .args .value) _ (cc) (c .value-right .ensures)
+
+returns-3 : tie.Need-returns-3
+returns-3 c = right-octets ((c .before .before .before .before .before .before .before .args .x) .now) (c .before .before .before .before .before .before .before .args .rule) (c .before .before .before .before .before .before .before .args .value) (c .before .before .before .before .value .given .0 .0) (cc) _ (c .before .before .octets-of .ensures) (c .before .if1 .left) _ (c .value-right2 .ensures)
+
+pub is-right-spec : {M : Type 1} → statement M
+is-right-spec =
+    tie.close
+    (tie.spec
+    enum-told
+    sub-value-right
+    part-value-right-start
+    part-value-right-end
+    value-right-requires
+    enum-known-value
+    octets-of-requires
+    returns
+    value-right-requires-2
+    returns-2
+    returns-3)

@@ -1,0 +1,25 @@
+-- 9, 10, or neither.
+use Rattle.base.proofs.Tests.{said-no, said-yes}
+use Rattle.rose.proofs.PartAnswers.{malformed, mistyped-value, right-value}
+use borrow.Author.Needs.{needs}
+use Rattle.rose.proofs.request.check_value.Statement.{statement}
+use Rattle.rose.proofs.request.check_value.Tie as tie
+
+is-well-requires : tie.Need-is-well-requires
+is-well-requires c κs = search needs
+
+returns : tie.Need-returns
+returns c = malformed _ _ (said-no (c .before .is-well .ensures) (c .if1 .taken))
+
+value-right-requires : tie.Need-value-right-requires
+value-right-requires c κs = search needs
+
+returns-2 : tie.Need-returns-2
+returns-2 c = mistyped-value _ _ (said-yes (c .before .before .before .is-well .ensures) (c .before .before .if1 .left)) (said-no (c .before .value-right .ensures) (c .if2 .taken))
+
+returns-3 : tie.Need-returns-3
+returns-3 c = right-value _ _ (said-yes (c .before .before .before .is-well .ensures) (c .before .before .if1 .left)) (said-yes (c .before .value-right .ensures) (c .if2 .left))
+
+pub check-value-spec : {M : Type 1} → statement M
+check-value-spec =
+    tie.close (tie.spec is-well-requires returns value-right-requires returns-2 returns-3)

@@ -1,0 +1,20 @@
+use Rattle.protocol.specs.Check.{peerRecords}
+-- What is found is a member.
+use mathlib.Core.Path.{ap, _∙_}
+use Rattle.rose.specs.Verdict.{isFound}
+use Rattle.rose.proofs.UsableAnswers.{found-member}
+use borrow.Author.Needs.{needs}
+use Rattle.rose.proofs.usable.has_peer.Statement.{statement}
+use Rattle.rose.proofs.usable.has_peer.Tie as tie
+
+find-peer-requires : tie.Need-find-peer-requires
+find-peer-requires c κs = search needs
+
+is-found-requires : tie.Need-is-found-requires
+is-found-requires c κs = search needs
+
+returns : tie.Need-returns
+returns c = c .is-found .ensures ∙ (ap isFound (c .before .find-peer .ensures .found) ∙ found-member ((c .before .before .args .id) .0) (peerRecords (c .before .before .args .state)))
+
+pub has-peer-spec : {M : Type 1} → statement M
+has-peer-spec = tie.close (tie.spec find-peer-requires is-found-requires returns)

@@ -1,0 +1,14 @@
+-- Either class.
+use mathlib.Core.Path.{refl}
+use borrow.Author.Tests.{eq-eqb, ne-eqb}
+use Rattle.rose.proofs.usable.is_class.Statement.{statement}
+use Rattle.rose.proofs.usable.is_class.Tie as tie
+
+returns : tie.Need-returns
+returns c = rw (eq-eqb _ _ (c .if1 .taken)) refl
+
+returns-2 : tie.Need-returns-2
+returns-2 c = rw (ne-eqb _ _ (c .if1 .left)) refl
+
+pub is-class-spec : {M : Type 1} → statement M
+is-class-spec = tie.close (tie.spec returns returns-2)

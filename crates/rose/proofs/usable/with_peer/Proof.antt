@@ -1,0 +1,26 @@
+-- Class 5 makes no record.
+use Rattle.rose.proofs.UsableAnswers.{peer-silent, peer-recorded}
+use mathlib.Core.Path.{_∙_}
+use borrow.Author.Needs.{needs}
+use Rattle.rose.proofs.usable.with_peer.Statement.{statement}
+use Rattle.rose.proofs.usable.with_peer.Tie as tie
+
+operation-named-requires : tie.Need-operation-named-requires
+operation-named-requires c κs = search needs
+
+class-requires : tie.Need-class-requires
+class-requires c κs = search needs
+
+returns : tie.Need-returns
+returns c = peer-silent _ _ _ _ _ (c .before .before .operation-named .ensures) (cc)
+
+add-peer-requires : tie.Need-add-peer-requires
+add-peer-requires c κs = search needs
+
+returns-2 : tie.Need-returns-2
+returns-2 c = c .add-peer .ensures ∙ peer-recorded _ _ _ _ _ (c .before .before .before .operation-named .ensures) (λ q. c .before .if1 .left (cc))
+
+pub with-peer-spec : {M : Type 1} → statement M
+with-peer-spec =
+    tie.close
+    (tie.spec operation-named-requires class-requires returns add-peer-requires returns-2)

@@ -1,0 +1,284 @@
+// The checks of the requests behind 19 and 1, in document 01's order.
+use crate::Verdict;
+use crate::usable::error_named;
+use crate::usable::fails;
+use crate::usable::has_own;
+use crate::usable::has_peer;
+use crate::usable::is_busy;
+use crate::usable::is_class;
+use crate::usable::lacks_room;
+use crate::usable::operation_named;
+use crate::usable::peer_code;
+use apdu::Number;
+use apdu::encode::error_size;
+use apdu::encode::invoke_size;
+use apdu::encode::reject_size;
+use apdu::encode::result_size;
+use ber::element::well_formed;
+use optable::Rule;
+use optable::is_child;
+use optable::is_paired;
+use optable::value_right;
+use protocol::Invocation;
+use protocol::PeerLink;
+use protocol::Refusal;
+use records::Code;
+use records::OwnId;
+use records::PeerId;
+use records::State;
+ghost use mathlib.Core.Path.{_≡_};
+ghost use mathlib.Core.Bool.{true};
+ghost use mathlib.Core.List.{List};
+ghost use Prim.Native.Nat.{ℕ, _≤_};
+ghost use lib.ListN.{length};
+ghost use Rattle.optable.specs.Validity.{valid};
+ghost use Rattle.ber.specs.Element.{given};
+ghost use Rattle.protocol.specs.Call.{invoke, result, error, reject, forget, own, peer};
+ghost use Rattle.protocol.specs.Check.{valueWell};
+ghost use Rattle.protocol.specs.Perform.{laterChecks, isUserProblem};
+ghost use Rattle.protocol.specs.Reading.{readPeerLink, forgetting};
+ghost use Rattle.rose.specs.Verdict.{first, readVerdict, linkedChecks, valueChecks, sizeChecks, withoutInvocation};
+
+pub(crate) fn link_number(linked: PeerLink) -> Number
+    ensures { λ r. ⌜ r ≡ readPeerLink linked ⌝ }
+{
+    match linked {
+        PeerLink::To(id) => Number::Of(id.0),
+        PeerLink::Absent => Number::Absent,
+    }
+}
+
+// A value, empty for none, is one well-formed element of at most so many levels.
+fn is_well(value: &[u8], levels: usize) -> bool
+    ensures { λ r. ⌜ r ≡ valueWell levels (given (now (value .entry))) ⌝ }
+{
+    if value.len() == 0 {
+        return true;
+    }
+    well_formed(value, levels)
+}
+
+// 7 and 8: the parent is a peer record, and the operation its listed child.
+fn check_linked(state: State, table: &[u8], linked: PeerLink, code: Code) -> Verdict
+    requires { ⌜ valid (now table) ≡ true ⌝ }
+    ensures { λ r. ⌜ readVerdict r ≡ first (linkedChecks (now (table .entry)) state (readPeerLink linked) code) ⌝ }
+{
+    match linked {
+        PeerLink::Absent => Verdict::Passes,
+        PeerLink::To(id) => {
+            if !has_peer(state, id) {
+                return Verdict::Fails(Refusal::UnknownLinkedId);
+            }
+            if !is_child(table, peer_code(state, id), code) {
+                return Verdict::Fails(Refusal::NotAChild);
+            }
+            Verdict::Passes
+        }
+    }
+}
+
+// 9 and 10.
+fn check_value(rule: Rule, value: &[u8]) -> Verdict
+    ensures { λ r. ⌜ readVerdict r ≡ first (valueChecks rule (given (now (value .entry)))) ⌝ }
+{
+    if !is_well(value, State::LEVELS) {
+        return Verdict::Fails(Refusal::MalformedValue);
+    }
+    if !value_right(rule, value) {
+        return Verdict::Fails(Refusal::MistypedValue);
+    }
+    Verdict::Passes
+}
+
+// 15 and 2, of an APDU of so many octets in which the value stands so many levels down.
+fn check_size(down: usize, value: &[u8], size: usize, room: usize) -> Verdict
+    requires { ⌜ down ≤ 2 ⌝ }
+    ensures { λ r. ⌜ ((x : List ℕ) → size ≡ length x → readVerdict r ≡ first (sizeChecks down (given (now (value .entry))) x room)) ⌝ }
+{
+    if size > State::OCTETS {
+        return Verdict::Fails(Refusal::LargeApdu);
+    }
+    if !is_well(value, State::LEVELS - down) {
+        return Verdict::Fails(Refusal::LargeApdu);
+    }
+    if room < size {
+        return Verdict::Fails(Refusal::ShortOutput);
+    }
+    Verdict::Passes
+}
+
+pub(crate) fn check_invoke(
+    state: State,
+    table: &[u8],
+    id: OwnId,
+    code: Code,
+    linked: PeerLink,
+    value: &[u8],
+    room: usize,
+) -> Verdict
+    requires { ⌜ valid (now table) ≡ true ⌝ }
+    ensures { λ r. ⌜ readVerdict r ≡ first (laterChecks (now (table .entry)) state (invoke (id .0) code (readPeerLink linked) (now (value .entry)) room)) ⌝ }
+{
+    let named = operation_named(table, code);
+    if !named.is_listed() {
+        return Verdict::Fails(Refusal::UnknownOperation);
+    }
+    if has_own(state, id) {
+        return Verdict::Fails(Refusal::IdInUse);
+    }
+    let own = state.own;
+    if is_busy(table, own) {
+        return Verdict::Fails(Refusal::SynchronousLive);
+    }
+    let link = check_linked(state, table, linked, code);
+    if fails(link) {
+        return link;
+    }
+    let right = check_value(named.argument(), value);
+    if fails(right) {
+        return right;
+    }
+    if lacks_room(named.class(), own) {
+        return Verdict::Fails(Refusal::RecordsFull);
+    }
+    check_size(
+        1,
+        value,
+        invoke_size(id.0, link_number(linked), code, value),
+        room,
+    )
+}
+
+pub(crate) fn check_result(
+    state: State,
+    table: &[u8],
+    id: PeerId,
+    value: &[u8],
+    room: usize,
+) -> Verdict
+    requires { ⌜ valid (now table) ≡ true ⌝ }
+    ensures { λ r. ⌜ readVerdict r ≡ first (laterChecks (now (table .entry)) state (result (id .0) (now (value .entry)) room)) ⌝ }
+{
+    if !has_peer(state, id) {
+        return Verdict::Fails(Refusal::NoRecord);
+    }
+    let code = peer_code(state, id);
+    let named = operation_named(table, code);
+    if is_class(3, 5, named.class()) {
+        return Verdict::Fails(Refusal::WrongClass);
+    }
+    let right = check_value(named.result(), value);
+    if fails(right) {
+        return right;
+    }
+    check_size(2, value, result_size(id.0, code, value), room)
+}
+
+pub(crate) fn check_error(
+    state: State,
+    table: &[u8],
+    id: PeerId,
+    code: Code,
+    value: &[u8],
+    room: usize,
+) -> Verdict
+    requires { ⌜ valid (now table) ≡ true ⌝ }
+    ensures { λ r. ⌜ readVerdict r ≡ first (laterChecks (now (table .entry)) state (error (id .0) code (now (value .entry)) room)) ⌝ }
+{
+    if !has_peer(state, id) {
+        return Verdict::Fails(Refusal::NoRecord);
+    }
+    let operated = peer_code(state, id);
+    let used = operation_named(table, operated);
+    if is_class(4, 5, used.class()) {
+        return Verdict::Fails(Refusal::WrongClass);
+    }
+    let named = error_named(table, code);
+    if !named.is_known() {
+        return Verdict::Fails(Refusal::UnlistedError);
+    }
+    if !is_paired(table, operated, code) {
+        return Verdict::Fails(Refusal::UnlistedError);
+    }
+    let right = check_value(named.parameter(), value);
+    if fails(right) {
+        return right;
+    }
+    check_size(1, value, error_size(id.0, code, value), room)
+}
+
+fn is_user_problem(problem: u8) -> bool
+    ensures { λ r. ⌜ r ≡ isUserProblem problem ⌝ }
+{
+    if problem == 2 {
+        return true;
+    }
+    if problem == 3 {
+        return true;
+    }
+    problem == 4
+}
+
+pub(crate) fn check_reject(
+    state: State,
+    table: &[u8],
+    id: PeerId,
+    problem: u8,
+    room: usize,
+) -> Verdict
+    ensures { λ r. ⌜ readVerdict r ≡ first (laterChecks (now (table .entry)) state (reject (id .0) problem room)) ⌝ }
+{
+    if !is_user_problem(problem) {
+        return Verdict::Fails(Refusal::WrongProblem);
+    }
+    if !has_peer(state, id) {
+        return Verdict::Fails(Refusal::NoRecord);
+    }
+    if room < reject_size(Number::Of(id.0)) {
+        return Verdict::Fails(Refusal::ShortOutput);
+    }
+    Verdict::Passes
+}
+
+fn check_forget_peer(state: State, table: &[u8], id: PeerId) -> Verdict
+    requires { ⌜ valid (now table) ≡ true ⌝ }
+    ensures { λ r. ⌜ readVerdict r ≡ first (laterChecks (now (table .entry)) state (forget peer (id .0))) ⌝ }
+{
+    if !has_peer(state, id) {
+        return Verdict::Fails(Refusal::NoRecord);
+    }
+    let used = operation_named(table, peer_code(state, id));
+    if is_class(1, 2, used.class()) {
+        return Verdict::Fails(Refusal::WrongClass);
+    }
+    Verdict::Passes
+}
+
+fn check_forget_own(state: State, table: &[u8], id: OwnId) -> Verdict
+    ensures { λ r. ⌜ readVerdict r ≡ first (laterChecks (now (table .entry)) state (forget own (id .0))) ⌝ }
+{
+    if has_own(state, id) {
+        return Verdict::Passes;
+    }
+    Verdict::Fails(Refusal::NoRecord)
+}
+
+pub(crate) fn check_forget(state: State, table: &[u8], invocation: Invocation) -> Verdict
+    requires { ⌜ valid (now table) ≡ true ⌝ }
+    ensures { λ r. ⌜ readVerdict r ≡ first (laterChecks (now (table .entry)) state (forgetting invocation)) ⌝ }
+{
+    match invocation {
+        Invocation::Own(id) => check_forget_own(state, table, id),
+        Invocation::Peer(id) => check_forget_peer(state, table, id),
+    }
+}
+
+// The state without the record of an invocation.
+pub(crate) fn forgotten(state: State, invocation: Invocation) -> State
+    ensures { λ r. ⌜ r ≡ withoutInvocation state invocation ⌝ }
+{
+    match invocation {
+        Invocation::Own(id) => state.retire_own(id),
+        Invocation::Peer(id) => state.retire_peer(id),
+    }
+}

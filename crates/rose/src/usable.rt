@@ -1,0 +1,203 @@
+// What every call reads of state and table: refusals 19 and 1, classes, and records by id.
+use crate::Verdict;
+use optable::Error;
+use optable::Operation;
+use optable::error_of;
+use optable::operation_of;
+use optable::valid;
+use protocol::Refusal;
+use records::Code;
+use records::Found;
+use records::OwnId;
+use records::PeerId;
+use records::Records;
+use records::State;
+ghost use mathlib.Core.Path.{_≡_};
+ghost use Rattle.records.specs.Records.{view, member};
+ghost use Rattle.optable.specs.Validity.{valid};
+ghost use Rattle.optable.specs.Lookup.{operationOf, errorOf};
+ghost use mathlib.Core.Bool.{true, not, _&&_};
+ghost use lib.Dec.{eqb};
+ghost use Rattle.protocol.specs.Check.{codeFound, codeIn, ownRecords, peerRecords, isClass, isFull, covered, isBusy, shared};
+ghost use Rattle.protocol.specs.Perform.{withOwn};
+ghost use Rattle.protocol.specs.Receive.{withPeer};
+ghost use Rattle.rose.specs.Verdict.{first, readVerdict, isFailing, isFound};
+
+// The operation of a code in a valid table.
+pub(crate) fn operation_named(table: &[u8], code: Code) -> Operation
+    requires { ⌜ valid (now table) ≡ true ⌝ }
+    ensures { λ r. ⌜ r ≡ operationOf (now (table .entry)) code ⌝ }
+{
+    operation_of(table, code)
+}
+
+// Whether the table has the code of every live record of a side.
+fn covers(table: &[u8], side: Records) -> bool
+    requires { ⌜ valid (now table) ≡ true ⌝ }
+    ensures { λ r. ⌜ r ≡ covered (now (table .entry)) (view side) ⌝ }
+{
+    let n = side.live();
+    let mut i: usize = 0;
+    while i < n {
+        let r = side.places[i];
+        let named = operation_named(table, r.code);
+        if !named.is_listed() {
+            return false;
+        }
+        i += 1;
+    }
+    true
+}
+
+// Whether a class 1 record of a side is live.
+pub(crate) fn is_busy(table: &[u8], side: Records) -> bool
+    requires { ⌜ valid (now table) ≡ true ⌝ }
+    ensures { λ r. ⌜ r ≡ isBusy (now (table .entry)) (view side) ⌝ }
+{
+    let n = side.live();
+    let mut i: usize = 0;
+    while i < n {
+        let r = side.places[i];
+        let named = operation_named(table, r.code);
+        if named.class() == 1 {
+            return true;
+        }
+        i += 1;
+    }
+    false
+}
+
+// 19 and 1, which come first in every call.
+pub(crate) fn opening(state: State, table: &[u8]) -> Verdict
+    ensures { λ r. ⌜ readVerdict r ≡ first (shared (now (table .entry)) state) ⌝ }
+{
+    if !state.sound() {
+        return Verdict::Fails(Refusal::UnsoundState);
+    }
+    if !valid(table) {
+        return Verdict::Fails(Refusal::InvalidTable);
+    }
+    let own = state.own;
+    if !covers(table, own) {
+        return Verdict::Fails(Refusal::InvalidTable);
+    }
+    let peer = state.peer;
+    if !covers(table, peer) {
+        return Verdict::Fails(Refusal::InvalidTable);
+    }
+    Verdict::Passes
+}
+
+// Whether a record was found.
+fn is_found(found: Found) -> bool
+    ensures { λ r. ⌜ r ≡ isFound found ⌝ }
+{
+    match found {
+        Found::Operation(_) => true,
+        Found::Nothing => false,
+    }
+}
+
+// The code of a record that was found, else 0.
+fn code_found(found: Found) -> Code
+    ensures { λ r. ⌜ r ≡ codeFound found ⌝ }
+{
+    match found {
+        Found::Operation(code) => code,
+        Found::Nothing => Code(0),
+    }
+}
+
+pub(crate) fn has_own(state: State, id: OwnId) -> bool
+    ensures { λ r. ⌜ r ≡ member (id .0) (ownRecords state) ⌝ }
+{
+    let looked = state.find_own(id);
+    let found = looked.found;
+    is_found(found)
+}
+
+pub(crate) fn has_peer(state: State, id: PeerId) -> bool
+    ensures { λ r. ⌜ r ≡ member (id .0) (peerRecords state) ⌝ }
+{
+    let looked = state.find_peer(id);
+    let found = looked.found;
+    is_found(found)
+}
+
+// The state with an own record more, unless the class makes none.
+pub(crate) fn with_own(state: State, table: &[u8], id: OwnId, code: Code) -> State
+    requires { ⌜ valid (now table) ≡ true ⌝ }
+    ensures { λ r. ⌜ r ≡ withOwn (now (table .entry)) state (id .0) code ⌝ }
+{
+    let named = operation_named(table, code);
+    if named.class() == 5 {
+        return state;
+    }
+    state.add_own(id, code)
+}
+
+// The state with a peer record more, unless the class makes none.
+pub(crate) fn with_peer(state: State, table: &[u8], id: PeerId, code: Code) -> State
+    requires { ⌜ valid (now table) ≡ true ⌝ }
+    ensures { λ r. ⌜ r ≡ withPeer (now (table .entry)) state (id .0) code ⌝ }
+{
+    let named = operation_named(table, code);
+    if named.class() == 5 {
+        return state;
+    }
+    state.add_peer(id, code)
+}
+
+// The operation code of an own record, 0 where there is none.
+pub(crate) fn own_code(state: State, id: OwnId) -> Code
+    ensures { λ r. ⌜ r ≡ codeIn (ownRecords state) (id .0) ⌝ }
+{
+    let looked = state.find_own(id);
+    let found = looked.found;
+    code_found(found)
+}
+
+// The operation code of a peer record, 0 where there is none.
+pub(crate) fn peer_code(state: State, id: PeerId) -> Code
+    ensures { λ r. ⌜ r ≡ codeIn (peerRecords state) (id .0) ⌝ }
+{
+    let looked = state.find_peer(id);
+    let found = looked.found;
+    code_found(found)
+}
+
+// Whether a class that makes a record finds its side full.
+pub(crate) fn lacks_room(class: u8, side: Records) -> bool
+    ensures { λ r. ⌜ r ≡ (not (eqb class 5) && isFull (view side)) ⌝ }
+{
+    if class == 5 {
+        return false;
+    }
+    side.live() >= State::RECORDS
+}
+
+pub(crate) fn is_class(a: u8, b: u8, class: u8) -> bool
+    ensures { λ r. ⌜ r ≡ isClass a b class ⌝ }
+{
+    if class == a {
+        return true;
+    }
+    class == b
+}
+
+// The error of a code in a valid table.
+pub(crate) fn error_named(table: &[u8], code: Code) -> Error
+    requires { ⌜ valid (now table) ≡ true ⌝ }
+    ensures { λ r. ⌜ r ≡ errorOf (now (table .entry)) code ⌝ }
+{
+    error_of(table, code)
+}
+
+pub(crate) fn fails(verdict: Verdict) -> bool
+    ensures { λ r. ⌜ r ≡ isFailing verdict ⌝ }
+{
+    match verdict {
+        Verdict::Passes => false,
+        Verdict::Fails(_) => true,
+    }
+}
