@@ -1,4 +1,4 @@
-# make test: proves every crate, tries the must-fail edits, runs the programs, then tests the second program.
+# make test: proves every crate, tries the must-fail edits, runs the programs, then tests the second program and compares it with drive.
 # The last line is rt ci's 'N passed, 0 failed'; on a failure it is 'make test: failed'.
 SHELL := bash
 .SHELLFLAGS := -euo pipefail -c
@@ -15,4 +15,6 @@ test:
 	last=$$(tail -n 1 "$$log")
 	[[ $$last =~ ^[0-9]+\ passed,\ 0\ failed$$ ]] || { echo "make test: rt ci did not end in 'N passed, 0 failed'"; exit 1; }
 	cargo test --release --offline --quiet --manifest-path tests/second/Cargo.toml
+	cargo build --release --offline --quiet --manifest-path tests/second/Cargo.toml
+	tests/second/target/release/second compare target/bin/drive 40 2000
 	echo "$$last"

@@ -1,0 +1,236 @@
+// The line of one call: what was answered, the state then, and the lent output.
+use crate::text::decimal;
+use crate::text::hex_all;
+use crate::text::hex2;
+use crate::text::hex8;
+use crate::text::put;
+use crate::text::side_line;
+use crate::text::spoiled;
+use crate::text::words;
+use apdu::Body;
+use apdu::CodeField;
+use apdu::Number;
+use apdu::Value;
+use apdu::parse::octets_of;
+use protocol::Indication;
+use protocol::Outcome;
+use protocol::OwnLink;
+use protocol::Reception;
+use protocol::Refusal;
+use records::State;
+
+fn refusal_number(why: Refusal) -> u8 {
+    match why {
+        Refusal::InvalidTable => 1,
+        Refusal::ShortOutput => 2,
+        Refusal::LongInput => 3,
+        Refusal::UnknownOperation => 4,
+        Refusal::IdInUse => 5,
+        Refusal::SynchronousLive => 6,
+        Refusal::UnknownLinkedId => 7,
+        Refusal::NotAChild => 8,
+        Refusal::MalformedValue => 9,
+        Refusal::MistypedValue => 10,
+        Refusal::NoRecord => 11,
+        Refusal::WrongClass => 12,
+        Refusal::UnlistedError => 13,
+        Refusal::RecordsFull => 14,
+        Refusal::LargeApdu => 15,
+        Refusal::WrongProblem => 16,
+        Refusal::UnacceptableReject => 17,
+        Refusal::Rejected {
+            id: _,
+            kind: _,
+            problem: _,
+        } => 18,
+        Refusal::UnsoundState => 19,
+    }
+}
+
+// The problem's kind and number behind an 18.
+fn problem_line(line: &mut [u8], at: usize, kind: u8, problem: u8) -> usize {
+    let a = put(line, at, 32);
+    let b = hex2(line, a, kind);
+    let c = put(line, b, 32);
+    hex2(line, c, problem)
+}
+
+fn refusal_line(line: &mut [u8], why: Refusal) -> usize {
+    let a = words(line, 0, b"refused ");
+    let b = decimal(line, a, refusal_number(why));
+    match why {
+        Refusal::Rejected {
+            id: _,
+            kind,
+            problem,
+        } => problem_line(line, b, kind, problem),
+        _ => b,
+    }
+}
+
+fn number_line(line: &mut [u8], at: usize, n: Number) -> usize {
+    match n {
+        Number::Absent => words(line, at, b" none"),
+        Number::Of(x) => word_line(line, at, x),
+    }
+}
+
+fn word_line(line: &mut [u8], at: usize, x: u32) -> usize {
+    let a = put(line, at, 32);
+    hex8(line, a, x)
+}
+
+fn link_line(line: &mut [u8], at: usize, linked: OwnLink) -> usize {
+    match linked {
+        OwnLink::Absent => words(line, at, b" none"),
+        OwnLink::To(id) => word_line(line, at, id.0),
+    }
+}
+
+fn octets_line(line: &mut [u8], at: usize, v: &[u8]) -> usize {
+    let a = put(line, at, 32);
+    hex_all(line, a, v)
+}
+
+fn value_line(line: &mut [u8], at: usize, x: &[u8], value: Value) -> usize {
+    match value {
+        Value::Absent => words(line, at, b" none"),
+        Value::At(span) => octets_line(line, at, octets_of(x, span)),
+    }
+}
+
+fn code_line(line: &mut [u8], at: usize, code: CodeField) -> usize {
+    match code {
+        CodeField::Other => words(line, at, b" none"),
+        CodeField::Local(c) => word_line(line, at, c.0),
+    }
+}
+
+fn body_line(line: &mut [u8], at: usize, x: &[u8], body: Body) -> usize {
+    match body {
+        Body::Absent => words(line, at, b" none none"),
+        Body::Of { code, value } => {
+            let a = code_line(line, at, code);
+            octets_line(line, a, octets_of(x, value))
+        }
+    }
+}
+
+fn operation_line(line: &mut [u8], at: usize, code: u32) -> usize {
+    let a = words(line, at, b" op");
+    word_line(line, a, code)
+}
+
+fn user_reject_line(line: &mut [u8], id: u32, kind: u8, problem: u8) -> usize {
+    let a = words(line, 0, b"reject-u");
+    let b = word_line(line, a, id);
+    problem_line(line, b, kind, problem)
+}
+
+fn indication_line(line: &mut [u8], x: &[u8], said: Indication) -> usize {
+    match said {
+        Indication::Invoke {
+            id,
+            linked,
+            code,
+            argument,
+        } => {
+            let a = words(line, 0, b"invoke");
+            let b = word_line(line, a, id.0);
+            let c = link_line(line, b, linked);
+            let d = word_line(line, c, code.0);
+            value_line(line, d, x, argument)
+        }
+        Indication::Result {
+            id,
+            body,
+            operation,
+        } => {
+            let a = words(line, 0, b"result");
+            let b = word_line(line, a, id.0);
+            let c = body_line(line, b, x, body);
+            operation_line(line, c, operation.0)
+        }
+        Indication::Error {
+            id,
+            code,
+            parameter,
+            operation,
+        } => {
+            let a = words(line, 0, b"error");
+            let b = word_line(line, a, id.0);
+            let c = word_line(line, b, code.0);
+            let d = value_line(line, c, x, parameter);
+            operation_line(line, d, operation.0)
+        }
+        Indication::InvokeRejected { id, problem } => user_reject_line(line, id.0, 0x81, problem),
+        Indication::ResultRejected { id, problem } => user_reject_line(line, id.0, 0x82, problem),
+        Indication::ErrorRejected { id, problem } => user_reject_line(line, id.0, 0x83, problem),
+        Indication::GeneralReject { id, problem } => {
+            let a = words(line, 0, b"reject-p");
+            let b = number_line(line, a, id);
+            problem_line(line, b, 0x80, problem)
+        }
+    }
+}
+
+pub(crate) fn reception_line(line: &mut [u8], x: &[u8], reception: Reception) -> usize {
+    match reception {
+        Reception::Indicated(said) => indication_line(line, x, said),
+        Reception::Refused(why) => refusal_line(line, why),
+    }
+}
+
+fn accepted_line(line: &mut [u8], is_forget: bool) -> usize {
+    if is_forget {
+        return words(line, 0, b"forgotten");
+    }
+    words(line, 0, b"sent")
+}
+
+pub(crate) fn outcome_line(line: &mut [u8], is_forget: bool, outcome: Outcome) -> usize {
+    match outcome {
+        Outcome::Accepted => accepted_line(line, is_forget),
+        Outcome::Refused(why) => refusal_line(line, why),
+    }
+}
+
+fn state_line(line: &mut [u8], at: usize, state: State) -> usize {
+    let own = state.own;
+    let peer = state.peer;
+    let a = words(line, at, b" own ");
+    let b = side_line(line, a, own);
+    let c = words(line, b, b" peer ");
+    side_line(line, c, peer)
+}
+
+// Says if an octet behind what was written is no longer A5, and ends the line.
+fn behind_line(line: &mut [u8], at: usize, behind: &[u8]) -> usize {
+    if spoiled(behind) {
+        let k = words(line, at, b" spoiled");
+        return put(line, k, 10);
+    }
+    put(line, at, 10)
+}
+
+fn output_line(line: &mut [u8], at: usize, lent: &[u8], written: usize) -> usize {
+    let a = words(line, at, b" out ");
+    if written == 0 {
+        let b = put(line, a, 45);
+        return behind_line(line, b, lent);
+    }
+    if written <= lent.len() {
+        let b = hex_all(line, a, &lent[0..written]);
+        return behind_line(line, b, &lent[written..]);
+    }
+    a
+}
+
+// Ends the line of a call whose answer stands before `at`, and writes it to standard output.
+pub(crate) fn emit(line: &mut [u8], at: usize, state: State, lent: &[u8], written: usize) {
+    let a = state_line(line, at, state);
+    let n = output_line(line, a, lent, written);
+    if n <= line.len() {
+        io::write_all(1, &line[0..n]);
+    }
+}

@@ -1,0 +1,245 @@
+// One end of an association, driven by a script of frames on standard input: a line on standard output for each call.
+mod answer;
+mod text;
+
+use answer::emit;
+use answer::outcome_line;
+use answer::reception_line;
+use protocol::Invocation;
+use protocol::PeerLink;
+use protocol::Requested;
+use records::Code;
+use records::OwnId;
+use records::PeerId;
+use records::State;
+use text::fill;
+use text::pair;
+use text::side_image;
+use text::word;
+use text::words;
+
+// What is kept from frame to frame.
+struct Session {
+    more: bool,
+    table_len: usize,
+    state: State,
+}
+
+struct Frame {
+    kind: u8,
+    flag: u8,
+    room: usize,
+    id: u32,
+    code: u32,
+    linked: u32,
+    size: usize,
+}
+
+// The next frame's header, or none at the end of the input.
+enum Header {
+    Frame(Frame),
+    End,
+}
+
+fn next_header() -> Header {
+    let mut head = [0u8; 18];
+    let got = io::read_full(0, &mut head);
+    if got != 18 {
+        return Header::End;
+    }
+    Header::Frame(Frame {
+        kind: head[0],
+        flag: head[1],
+        room: pair(head[2], head[3]),
+        id: word(&head, 4),
+        code: word(&head, 8),
+        linked: word(&head, 12),
+        size: pair(head[16], head[17]),
+    })
+}
+
+// Reads exactly n octets to the start of a buffer.
+fn filled(buf: &mut [u8], n: usize) -> bool {
+    if n <= buf.len() {
+        return io::read_full(0, &mut buf[0..n]) == n;
+    }
+    false
+}
+
+fn ended(s: Session) -> Session {
+    let state = s.state;
+    Session {
+        more: false,
+        table_len: 0,
+        state,
+    }
+}
+
+fn link(f: Frame) -> PeerLink {
+    if f.flag == 1 {
+        return PeerLink::To(PeerId(f.linked));
+    }
+    PeerLink::Absent
+}
+
+fn invocation(f: Frame) -> Invocation {
+    if f.flag == 0 {
+        return Invocation::Own(OwnId(f.id));
+    }
+    Invocation::Peer(PeerId(f.id))
+}
+
+fn receive(state: State, table: &[u8], x: &[u8], out: &mut [u8], line: &mut [u8]) -> State {
+    let r = rose::receive(state, table, x, out);
+    let reception = r.reception;
+    let next = r.state;
+    let at = reception_line(line, x, reception);
+    emit(line, at, next, out, r.written);
+    next
+}
+
+fn request(f: Frame, state: State, table: &[u8], value: &[u8], out: &mut [u8]) -> Requested {
+    let kind = f.kind;
+    if kind == 3 {
+        return rose::invoke(state, table, OwnId(f.id), Code(f.code), link(f), value, out);
+    }
+    if kind == 4 {
+        return rose::result(state, table, PeerId(f.id), value, out);
+    }
+    if kind == 5 {
+        return rose::error(state, table, PeerId(f.id), Code(f.code), value, out);
+    }
+    if kind == 6 {
+        return rose::reject(state, table, PeerId(f.id), f.flag, out);
+    }
+    rose::forget(state, table, invocation(f))
+}
+
+// One call and its line.
+fn call(
+    f: Frame,
+    state: State,
+    table: &[u8],
+    payload: &[u8],
+    out: &mut [u8],
+    line: &mut [u8],
+) -> State {
+    fill(out);
+    if f.kind == 2 {
+        return receive(state, table, payload, out, line);
+    }
+    let r = request(f, state, table, payload, out);
+    let outcome = r.outcome;
+    let next = r.state;
+    let at = outcome_line(line, f.kind == 7, outcome);
+    emit(line, at, next, out, r.written);
+    next
+}
+
+// A state image of 516 octets; another length is ignored.
+fn imaged(payload: &[u8], s: Session) -> Session {
+    if payload.len() != 516 {
+        return s;
+    }
+    let table_len = s.table_len;
+    let own = side_image(payload, 0);
+    let peer = side_image(payload, 258);
+    let state = State { own, peer };
+    Session {
+        more: true,
+        table_len,
+        state,
+    }
+}
+
+// A frame whose payload was read.
+fn act(
+    f: Frame,
+    table: &mut [u8],
+    payload: &[u8],
+    out: &mut [u8],
+    line: &mut [u8],
+    s: Session,
+) -> Session {
+    let kind = f.kind;
+    let room = f.room;
+    let table_len = s.table_len;
+    let state = s.state;
+    if kind == 0 {
+        let n = words(table, 0, payload);
+        return Session {
+            more: true,
+            table_len: n,
+            state,
+        };
+    }
+    if kind == 1 {
+        return imaged(payload, s);
+    }
+    if 7 < kind {
+        return ended(s);
+    }
+    if table_len <= table.len() {
+        if room <= out.len() {
+            let state = call(
+                f,
+                state,
+                &table[0..table_len],
+                payload,
+                &mut out[0..room],
+                line,
+            );
+            return Session {
+                more: true,
+                table_len,
+                state,
+            };
+        }
+    }
+    ended(s)
+}
+
+fn turn(
+    table: &mut [u8],
+    payload: &mut [u8],
+    out: &mut [u8],
+    line: &mut [u8],
+    s: Session,
+) -> Session {
+    let h = next_header();
+    match h {
+        Header::End => ended(s),
+        Header::Frame(f) => {
+            let n = f.size;
+            if !filled(payload, n) {
+                return ended(s);
+            }
+            if n <= payload.len() {
+                return act(f, table, &payload[0..n], out, line, s);
+            }
+            ended(s)
+        }
+    }
+}
+
+// A proved loop has to end, so it counts its turns down, from a number that no run uses up.
+fn run(table: &mut [u8], payload: &mut [u8], out: &mut [u8], line: &mut [u8]) {
+    let mut s = Session {
+        more: true,
+        table_len: 0,
+        state: State::fresh(),
+    };
+    let mut turns = u64::MAX;
+    while turns > 0 && s.more {
+        s = turn(table, payload, out, line, s);
+        turns -= 1;
+    }
+}
+
+fn main() {
+    let mut table = io::large_buffer();
+    let mut payload = io::large_buffer();
+    let mut out = io::large_buffer();
+    let mut line = [0u8; 300000];
+    run(&mut table, &mut payload, &mut out, &mut line);
+}

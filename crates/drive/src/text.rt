@@ -1,0 +1,166 @@
+// Octets as text at a place of a line; each function answers the place behind what it put.
+use records::Code;
+use records::Record;
+use records::Records;
+use records::State;
+
+pub(crate) fn put(line: &mut [u8], at: usize, b: u8) -> usize {
+    if at < line.len() {
+        line[at] = b;
+        return at + 1;
+    }
+    at
+}
+
+fn digit(x: u32) -> u8 {
+    let d = (x % 16) as u8;
+    if d < 10 { 48 + d } else { 87 + d }
+}
+
+fn wide(x: u8) -> u32 {
+    x as u32
+}
+
+pub(crate) fn hex2(line: &mut [u8], at: usize, x: u8) -> usize {
+    let a = put(line, at, digit(wide(x) / 16));
+    put(line, a, digit(wide(x)))
+}
+
+fn hex4(line: &mut [u8], at: usize, x: usize) -> usize {
+    let a = hex2(line, at, (x / 256 % 256) as u8);
+    hex2(line, a, (x % 256) as u8)
+}
+
+pub(crate) fn hex8(line: &mut [u8], at: usize, x: u32) -> usize {
+    let a = hex4(line, at, (x / 65536) as usize);
+    hex4(line, a, (x % 65536) as usize)
+}
+
+// A number below 100, without a leading zero.
+pub(crate) fn decimal(line: &mut [u8], at: usize, x: u8) -> usize {
+    if x < 10 {
+        return put(line, at, 48 + x);
+    }
+    let a = put(line, at, 48 + x / 10 % 10);
+    put(line, a, 48 + x % 10)
+}
+
+pub(crate) fn hex_all(line: &mut [u8], at: usize, s: &[u8]) -> usize {
+    let mut k = at;
+    for i in 0..s.len() {
+        k = hex2(line, k, s[i]);
+    }
+    k
+}
+
+pub(crate) fn words(line: &mut [u8], at: usize, s: &[u8]) -> usize {
+    let mut k = at;
+    for i in 0..s.len() {
+        k = put(line, k, s[i]);
+    }
+    k
+}
+
+// Fills lent output with A5, so that a spoiled octet shows.
+pub(crate) fn fill(s: &mut [u8]) {
+    for i in 0..s.len() {
+        put(s, i, 0xA5);
+    }
+}
+
+pub(crate) fn spoiled(s: &[u8]) -> bool {
+    for i in 0..s.len() {
+        if s[i] != 0xA5 {
+            return true;
+        }
+    }
+    false
+}
+
+// How many places to show: those below the count, and those up to the last that is not 0:0.
+fn shown(side: Records) -> usize {
+    let mut n = State::RECORDS;
+    while 0 < n {
+        let r = side.places[n - 1];
+        if n <= side.count || r.id != 0 || r.code.0 != 0 {
+            return n;
+        }
+        n -= 1;
+    }
+    0
+}
+
+fn place(line: &mut [u8], at: usize, r: Record, is_shown: bool) -> usize {
+    if !is_shown {
+        return at;
+    }
+    let a = put(line, at, 32);
+    let b = hex8(line, a, r.id);
+    let c = put(line, b, 58);
+    hex8(line, c, r.code.0)
+}
+
+fn places(line: &mut [u8], at: usize, side: Records, n: usize) -> usize {
+    let mut k = at;
+    for i in 0..State::RECORDS {
+        k = place(line, k, side.places[i], i < n);
+    }
+    k
+}
+
+pub(crate) fn side_line(line: &mut [u8], at: usize, side: Records) -> usize {
+    let k = hex4(line, at, side.count);
+    places(line, k, side, shown(side))
+}
+
+// ---- numbers from octets, 0 where they are missing
+
+pub(crate) fn pair(a: u8, b: u8) -> usize {
+    (a as usize) * 256 + (b as usize)
+}
+
+fn pair_at(s: &[u8], at: usize) -> usize {
+    if at < s.len() {
+        let t = &s[at..];
+        if 2 <= t.len() {
+            return pair(t[0], t[1]);
+        }
+    }
+    0
+}
+
+fn four(a: u8, b: u8, c: u8, d: u8) -> u32 {
+    (a as u32) * 16777216 + (b as u32) * 65536 + (c as u32) * 256 + (d as u32)
+}
+
+pub(crate) fn word(s: &[u8], at: usize) -> u32 {
+    if at < s.len() {
+        let t = &s[at..];
+        if 4 <= t.len() {
+            return four(t[0], t[1], t[2], t[3]);
+        }
+    }
+    0
+}
+
+// A side of a state image: a count, then 32 places of id and code.
+pub(crate) fn side_image(s: &[u8], from: usize) -> Records {
+    let mut places = [Record {
+        id: 0,
+        code: Code(0),
+    }; State::RECORDS];
+    for i in 0..State::RECORDS {
+        if from < 1000 {
+            let id = word(s, from + 2 + i * 8);
+            let code = word(s, from + 6 + i * 8);
+            places[i] = Record {
+                id,
+                code: Code(code),
+            };
+        }
+    }
+    Records {
+        count: pair_at(s, from),
+        places,
+    }
+}
