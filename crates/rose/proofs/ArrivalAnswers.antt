@@ -1,4 +1,4 @@
--- What each way through the checks of arrival.rt answers.
+-- What each way through the checks of problem.rt answers.
 use Prim.Native.Nat.{ℕ}
 use mathlib.Core.Path.{_≡_, refl, sym, ap, _∙_}
 use mathlib.Core.Bool.{Bool, true, false, not, _&&_, false≢true}

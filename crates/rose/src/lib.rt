@@ -1,5 +1,7 @@
 // The six calls over a state by value, a lent table, lent octets and a lent output: document 01, 'Receiving' and 'Requests'.
 mod arrival;
+mod forgetting;
+mod problem;
 mod request;
 mod usable;
 
@@ -9,6 +11,8 @@ use apdu::encode::write_invoke;
 use apdu::encode::write_reject;
 use apdu::encode::write_result;
 use arrival::arrive;
+use forgetting::check_forget;
+use forgetting::forgotten;
 use protocol::Invocation;
 use protocol::Outcome;
 use protocol::PeerLink;
@@ -21,11 +25,9 @@ use records::OwnId;
 use records::PeerId;
 use records::State;
 use request::check_error;
-use request::check_forget;
 use request::check_invoke;
 use request::check_reject;
 use request::check_result;
-use request::forgotten;
 use request::link_number;
 use usable::opening;
 use usable::peer_code;

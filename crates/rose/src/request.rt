@@ -19,7 +19,6 @@ use optable::Rule;
 use optable::is_child;
 use optable::is_paired;
 use optable::value_right;
-use protocol::Invocation;
 use protocol::PeerLink;
 use protocol::Refusal;
 use records::Code;
@@ -33,11 +32,11 @@ ghost use Prim.Native.Nat.{ℕ, _≤_};
 ghost use lib.ListN.{length};
 ghost use Rattle.optable.specs.Validity.{valid};
 ghost use Rattle.ber.specs.Element.{given};
-ghost use Rattle.protocol.specs.Call.{invoke, result, error, reject, forget, own, peer};
+ghost use Rattle.protocol.specs.Call.{invoke, result, error, reject, own};
 ghost use Rattle.protocol.specs.Check.{valueWell};
 ghost use Rattle.protocol.specs.Perform.{laterChecks, isUserProblem};
-ghost use Rattle.protocol.specs.Reading.{readPeerLink, forgetting};
-ghost use Rattle.rose.specs.Verdict.{first, readVerdict, linkedChecks, valueChecks, sizeChecks, withoutInvocation};
+ghost use Rattle.protocol.specs.Reading.{readPeerLink};
+ghost use Rattle.rose.specs.Verdict.{first, readVerdict, linkedChecks, valueChecks, sizeChecks};
 
 pub(crate) fn link_number(linked: PeerLink) -> Number
     ensures { λ r. ⌜ r ≡ readPeerLink linked ⌝ }
@@ -238,47 +237,4 @@ pub(crate) fn check_reject(
         return Verdict::Fails(Refusal::ShortOutput);
     }
     Verdict::Passes
-}
-
-fn check_forget_peer(state: State, table: &[u8], id: PeerId) -> Verdict
-    requires { ⌜ valid (now table) ≡ true ⌝ }
-    ensures { λ r. ⌜ readVerdict r ≡ first (laterChecks (now (table .entry)) state (forget peer (id .0))) ⌝ }
-{
-    if !has_peer(state, id) {
-        return Verdict::Fails(Refusal::NoRecord);
-    }
-    let used = operation_named(table, peer_code(state, id));
-    if is_class(1, 2, used.class()) {
-        return Verdict::Fails(Refusal::WrongClass);
-    }
-    Verdict::Passes
-}
-
-fn check_forget_own(state: State, table: &[u8], id: OwnId) -> Verdict
-    ensures { λ r. ⌜ readVerdict r ≡ first (laterChecks (now (table .entry)) state (forget own (id .0))) ⌝ }
-{
-    if has_own(state, id) {
-        return Verdict::Passes;
-    }
-    Verdict::Fails(Refusal::NoRecord)
-}
-
-pub(crate) fn check_forget(state: State, table: &[u8], invocation: Invocation) -> Verdict
-    requires { ⌜ valid (now table) ≡ true ⌝ }
-    ensures { λ r. ⌜ readVerdict r ≡ first (laterChecks (now (table .entry)) state (forgetting invocation)) ⌝ }
-{
-    match invocation {
-        Invocation::Own(id) => check_forget_own(state, table, id),
-        Invocation::Peer(id) => check_forget_peer(state, table, id),
-    }
-}
-
-// The state without the record of an invocation.
-pub(crate) fn forgotten(state: State, invocation: Invocation) -> State
-    ensures { λ r. ⌜ r ≡ withoutInvocation state invocation ⌝ }
-{
-    match invocation {
-        Invocation::Own(id) => state.retire_own(id),
-        Invocation::Peer(id) => state.retire_peer(id),
-    }
 }

@@ -1,5 +1,5 @@
-use Rattle.rose.proofs.Arrivals.{reject-absent, reject-retires, reject-leaves}
 -- Without an id; of an Invoke, which retires its record; and of another APDU.
+use Rattle.rose.proofs.Arrivals.{reject-absent, reject-retires, reject-leaves}
 use borrow.Author.Needs.{needs}
 use Rattle.rose.proofs.arrival.arrive_reject.Statement.{statement}
 use Rattle.rose.proofs.arrival.arrive_reject.Tie as tie

@@ -1,5 +1,5 @@
-use Rattle.rose.proofs.Arrivals.{is-wrong, fault-reject, fault-other}
 -- By the first octet.
+use Rattle.rose.proofs.Arrivals.{is-wrong, fault-reject, fault-other}
 use mathlib.Core.Path.{sym, _∙_}
 use Rattle.protocol.specs.Call.{refused}
 use borrow.Author.Needs.{needs}

@@ -1,7 +1,7 @@
+-- 11, 12, 13 by the table, 13 by the pair, 9 and 10, or 15 and 2.
 use Rattle.apdu.specs.Encode.{encodeError}
 use Rattle.rose.proofs.RequestAnswers.{error-unknown, error-class, error-not-known, error-not-paired, error-value, error-sized}
 use Rattle.ber.specs.Element.{given}
--- 11, 12, 13 by the table, 13 by the pair, 9 and 10, or 15 and 2.
 use mathlib.Core.Path.{sym, ap, _∙_}
 use Rattle.records.specs.declared.Code.{Code}
 use Rattle.optable.specs.Lookup.{operationOf, paired}

@@ -1,8 +1,8 @@
+-- 4, 5, 6, 7 and 8, 9 and 10, 14, or 15 and 2.
 use Rattle.protocol.specs.Reading.{readPeerLink}
 use Rattle.rose.proofs.RequestAnswers.{invoke-unknown, invoke-in-use, invoke-busy, invoke-linked, invoke-value, invoke-full, invoke-sized}
 use Rattle.ber.specs.Element.{given}
 use Rattle.apdu.specs.Encode.{encodeInvoke}
--- 4, 5, 6, 7 and 8, 9 and 10, 14, or 15 and 2.
 use mathlib.Core.Path.{sym, _∙_}
 use Rattle.base.proofs.Tests.{said-no, said-yes}
 use borrow.Author.Needs.{needs}

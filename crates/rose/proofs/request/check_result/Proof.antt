@@ -1,7 +1,7 @@
+-- 11, 12, 9 and 10, or 15 and 2.
 use Rattle.protocol.specs.Perform.{resultApdu}
 use Rattle.rose.proofs.RequestAnswers.{result-unknown, result-class, result-value, result-sized}
 use lib.ListN.{length}
--- 11, 12, 9 and 10, or 15 and 2.
 use mathlib.Core.Path.{sym, ap, _∙_}
 use Rattle.records.specs.declared.Code.{Code}
 use Rattle.ber.specs.Element.{given}

@@ -1,5 +1,5 @@
-use Rattle.protocol.specs.Check.{ownRecords}
 -- What is found is a member.
+use Rattle.protocol.specs.Check.{ownRecords}
 use mathlib.Core.Path.{ap, _∙_}
 use Rattle.rose.specs.Verdict.{isFound}
 use Rattle.rose.proofs.UsableAnswers.{found-member}

@@ -1,7 +1,7 @@
 -- The code, or 0.
 use borrow.Author.Needs.{needs}
-use Rattle.rose.proofs.arrival.field_code.Statement.{statement}
-use Rattle.rose.proofs.arrival.field_code.Tie as tie
+use Rattle.rose.proofs.problem.field_code.Statement.{statement}
+use Rattle.rose.proofs.problem.field_code.Tie as tie
 
 enum-known-field : tie.Need-enum-known-field
 enum-known-field c = search needs

@@ -1,13 +1,13 @@
+-- A code of another form is not the record's.
 use Rattle.records.specs.Records.{sameCode}
 use Rattle.records.specs.declared.Code.{Code}
 use mathlib.Core.Bool.{not}
 use mathlib.Core.Path.{sym, ap, _∙_}
--- A code of another form is not the record's.
 use Rattle.apdu.specs.Reading.{readBody}
 use Rattle.rose.proofs.Arrivals.{other-local, other-form}
 use borrow.Author.Needs.{needs}
-use Rattle.rose.proofs.arrival.is_other.Statement.{statement}
-use Rattle.rose.proofs.arrival.is_other.Tie as tie
+use Rattle.rose.proofs.problem.is_other.Statement.{statement}
+use Rattle.rose.proofs.problem.is_other.Tie as tie
 
 enum-told : tie.Need-enum-told
 enum-told c = search needs

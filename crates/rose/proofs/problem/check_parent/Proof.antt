@@ -2,8 +2,8 @@
 use Rattle.rose.proofs.LinkedAnswers.{parent-absent, parent-unknown, parent-childless, parent-right}
 use Rattle.base.proofs.Tests.{said-no, said-yes}
 use borrow.Author.Needs.{needs}
-use Rattle.rose.proofs.arrival.check_parent.Statement.{statement}
-use Rattle.rose.proofs.arrival.check_parent.Tie as tie
+use Rattle.rose.proofs.problem.check_parent.Statement.{statement}
+use Rattle.rose.proofs.problem.check_parent.Tie as tie
 
 enum-told : tie.Need-enum-told
 enum-told c = search needs

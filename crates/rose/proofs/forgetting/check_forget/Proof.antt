@@ -7,8 +7,8 @@ use Rattle.protocol.specs.Reading.{forgetting}
 use Rattle.apdu.proofs.Answers.{when-is}
 use Rattle.rose.specs.Verdict.{first}
 use borrow.Author.Needs.{needs}
-use Rattle.rose.proofs.request.check_forget.Statement.{statement}
-use Rattle.rose.proofs.request.check_forget.Tie as tie
+use Rattle.rose.proofs.forgetting.check_forget.Statement.{statement}
+use Rattle.rose.proofs.forgetting.check_forget.Tie as tie
 
 enum-known-invocation : tie.Need-enum-known-invocation
 enum-known-invocation c = search needs

@@ -1,8 +1,8 @@
 -- The value beside the code, or none.
 use Rattle.apdu.specs.Reading.{readValue, readBody}
 use borrow.Author.Needs.{needs}
-use Rattle.rose.proofs.arrival.body_value.Statement.{statement}
-use Rattle.rose.proofs.arrival.body_value.Tie as tie
+use Rattle.rose.proofs.problem.body_value.Statement.{statement}
+use Rattle.rose.proofs.problem.body_value.Tie as tie
 
 enum-told : tie.Need-enum-told
 enum-told c = search needs

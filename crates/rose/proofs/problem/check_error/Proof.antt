@@ -5,8 +5,8 @@ use Rattle.protocol.specs.Check.{isClass}
 use Rattle.rose.proofs.ArrivalAnswers.{error-unasked, error-unexpected, other-error, unknown-error, unpaired-error, wrong-parameter, right-parameter}
 use Rattle.base.proofs.Tests.{said-no, said-yes}
 use borrow.Author.Needs.{needs}
-use Rattle.rose.proofs.arrival.check_error.Statement.{statement}
-use Rattle.rose.proofs.arrival.check_error.Tie as tie
+use Rattle.rose.proofs.problem.check_error.Statement.{statement}
+use Rattle.rose.proofs.problem.check_error.Tie as tie
 
 has-own-requires : tie.Need-has-own-requires
 has-own-requires c κs = search needs

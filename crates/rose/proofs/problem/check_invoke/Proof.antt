@@ -4,8 +4,8 @@ use Rattle.apdu.specs.Reading.{readValue}
 use Rattle.rose.proofs.ArrivalAnswers.{duplicate, parent-stops, other-operation, unlisted-operation, wrong-argument, child-stops, no-room, has-room}
 use Rattle.base.proofs.Tests.{said-no, said-yes}
 use borrow.Author.Needs.{needs}
-use Rattle.rose.proofs.arrival.check_invoke.Statement.{statement}
-use Rattle.rose.proofs.arrival.check_invoke.Tie as tie
+use Rattle.rose.proofs.problem.check_invoke.Statement.{statement}
+use Rattle.rose.proofs.problem.check_invoke.Tie as tie
 
 has-peer-requires : tie.Need-has-peer-requires
 has-peer-requires c κs = search needs

@@ -1,7 +1,7 @@
 -- By whose invocation it is.
 use borrow.Author.Needs.{needs}
-use Rattle.rose.proofs.request.forgotten.Statement.{statement}
-use Rattle.rose.proofs.request.forgotten.Tie as tie
+use Rattle.rose.proofs.forgetting.forgotten.Statement.{statement}
+use Rattle.rose.proofs.forgetting.forgotten.Tie as tie
 
 enum-known-invocation : tie.Need-enum-known-invocation
 enum-known-invocation c = search needs

@@ -7,8 +7,8 @@ use Rattle.rose.proofs.Verdicts.{moved}
 use Rattle.rose.proofs.ArrivalAnswers.{result-unasked, result-unexpected, result-other, result-wrong, result-right}
 use Rattle.base.proofs.Tests.{said-no, said-yes}
 use borrow.Author.Needs.{needs}
-use Rattle.rose.proofs.arrival.check_result.Statement.{statement}
-use Rattle.rose.proofs.arrival.check_result.Tie as tie
+use Rattle.rose.proofs.problem.check_result.Statement.{statement}
+use Rattle.rose.proofs.problem.check_result.Tie as tie
 
 has-own-requires : tie.Need-has-own-requires
 has-own-requires c κs = search needs

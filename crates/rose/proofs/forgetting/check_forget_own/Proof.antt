@@ -2,8 +2,8 @@
 use mathlib.Core.Path.{sym, _∙_}
 use Rattle.rose.proofs.RequestAnswers.{forget-own, forget-no-own}
 use borrow.Author.Needs.{needs}
-use Rattle.rose.proofs.request.check_forget_own.Statement.{statement}
-use Rattle.rose.proofs.request.check_forget_own.Tie as tie
+use Rattle.rose.proofs.forgetting.check_forget_own.Statement.{statement}
+use Rattle.rose.proofs.forgetting.check_forget_own.Tie as tie
 
 has-own-requires : tie.Need-has-own-requires
 has-own-requires c κs = search needs

@@ -1,8 +1,8 @@
-use Rattle.rose.proofs.Arrivals.{right-absent, right-empty, right-octets}
 -- No value, a value of no octets, or one with some.
+use Rattle.rose.proofs.Arrivals.{right-absent, right-empty, right-octets}
 use borrow.Author.Needs.{needs}
-use Rattle.rose.proofs.arrival.is_right.Statement.{statement}
-use Rattle.rose.proofs.arrival.is_right.Tie as tie
+use Rattle.rose.proofs.problem.is_right.Statement.{statement}
+use Rattle.rose.proofs.problem.is_right.Tie as tie
 
 enum-told : tie.Need-enum-told
 enum-told c = search needs

@@ -5,8 +5,8 @@ use Rattle.protocol.specs.Check.{isClass}
 use Rattle.rose.proofs.RequestAnswers.{forget-no-peer, forget-class, forget-peer}
 use Rattle.base.proofs.Tests.{said-no, said-yes}
 use borrow.Author.Needs.{needs}
-use Rattle.rose.proofs.request.check_forget_peer.Statement.{statement}
-use Rattle.rose.proofs.request.check_forget_peer.Tie as tie
+use Rattle.rose.proofs.forgetting.check_forget_peer.Statement.{statement}
+use Rattle.rose.proofs.forgetting.check_forget_peer.Tie as tie
 
 has-peer-requires : tie.Need-has-peer-requires
 has-peer-requires c κs = search needs

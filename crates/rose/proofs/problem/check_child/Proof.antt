@@ -2,8 +2,8 @@
 use mathlib.Core.Path.{sym, _∙_}
 use Rattle.rose.proofs.LinkedAnswers.{child-absent, child-unlisted, child-right}
 use borrow.Author.Needs.{needs}
-use Rattle.rose.proofs.arrival.check_child.Statement.{statement}
-use Rattle.rose.proofs.arrival.check_child.Tie as tie
+use Rattle.rose.proofs.problem.check_child.Statement.{statement}
+use Rattle.rose.proofs.problem.check_child.Tie as tie
 
 enum-told : tie.Need-enum-told
 enum-told c = search needs

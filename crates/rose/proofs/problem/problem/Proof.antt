@@ -2,8 +2,8 @@
 use mathlib.Core.Path.{refl}
 use Rattle.protocol.specs.Reading.{readRefusal}
 use Rattle.rose.specs.Verdict.{readVerdict}
-use Rattle.rose.proofs.arrival.problem.Statement.{statement}
-use Rattle.rose.proofs.arrival.problem.Tie as tie
+use Rattle.rose.proofs.problem.problem.Statement.{statement}
+use Rattle.rose.proofs.problem.problem.Tie as tie
 
 returns : tie.Need-returns
 unfolding readVerdict readRefusal
