@@ -119,3 +119,14 @@ module _ (P : ℕ → Bool) where
           let s : i ≡ j = cc in
           (omega arith, rw s at f)
       go false f q ih = let w = ih q in (omega arith, w .1)
+
+  -- where none is found, none of the n passes
+  pub seek-nowhere : (n i j : ℕ) → seek P n i ≡ Nowhere → i ≤ j → j < i + n → P j ≡ false
+  unfolding seek
+  seek-nowhere zero i j e p q = absurd (omega arith)
+  seek-nowhere (suc n) i j e p q = go (P i) refl e (eqb i j) refl (λ f r. seek-nowhere n (i + 1) j f r (omega arith))
+    where
+      go : (b : Bool) → P i ≡ b → cond b (At i) (seek P n (i + 1)) ≡ Nowhere → (c : Bool) → eqb i j ≡ c → (seek P n (i + 1) ≡ Nowhere → i + 1 ≤ j → P j ≡ false) → P j ≡ false
+      go true f g c h ih = let z : _≡_ {A = ℕ} 0 1 = cc in absurd (omega arith)
+      go false f g true h ih = rw (eqb-true i j h) at f
+      go false f g false h ih = let s = eqb-false i j h in ih g (omega (arith, s))

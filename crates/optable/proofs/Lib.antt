@@ -3,6 +3,7 @@ pub mod ListLaws
 pub mod TableLaws
 pub mod FieldLaws
 pub mod OrderLaws
+mod FaultLaws
 mod ReadAnswers
 mod ValidityAnswers
 mod LookupAnswers

@@ -1,23 +1,20 @@
 -- What each way out of the validity checks answers, over plain variables: the facts that led there, and the definition's value.
 use Prim.Native.Nat.{ℕ, _-_, _%_, _≤_, _<_}
 use native.Mathlib.Omega.{arith}
-use mathlib.Core.Path.{_≡_, sym, _∙_}
+use mathlib.Core.Path.{_≡_, _∙_}
 use mathlib.Core.Bool.{Bool, true, false, not}
 use mathlib.Core.List.{List}
 use borrow.Author.Tests.{eq-eqb, ne-eqb, lt-ltb, le-ltb, le-leb, lt-leb}
 use lib.ListN.{length}
 use lib.Dec.{eqb, ltb}
-use Rattle.base.proofs.Tests.{and-false-right}
 use Rattle.optable.specs.declared.Part.{Part}
 use Rattle.optable.specs.declared.Part.the-variants.{Operations, Errors, ErrorPairs, ChildPairs}
 use Rattle.optable.specs.declared.Rule.{Rule}
 use Rattle.optable.specs.declared.Operation.{Operation}
 use Rattle.optable.specs.declared.Error.{Error}
-use Rattle.optable.specs.Count.{every}
 use Rattle.optable.specs.Read.{count, start, below, codeAt, classAt, flagsAt, operationAt, flagAt, parameterAt, errorAt, firstAt, secondAt, secondPart}
-use Rattle.optable.specs.Validity.{withinLimit, behind, laidOut, ruleRight, operationRight, errorRight, indexed, allowed, pairRight, coded, pairBelow, above, rises, fieldsRight, entryRight, partRight, valid}
+use Rattle.optable.specs.Validity.{behind, laidOut, ruleRight, operationRight, errorRight, indexed, allowed, pairRight, coded, pairBelow, above, rises, fieldsRight, entryRight}
 use Rattle.optable.specs.Lookup.{classOf, argumentOf, resultOf, parameterOf}
-use Rattle.optable.proofs.CountLaws.{every-broken}
 
 -- ---- the header
 
@@ -182,46 +179,3 @@ module _ (t : List ℕ) (k : Part) where
   pub order-decides : (i : ℕ) {b : Bool} → fieldsRight t k i ≡ true → b ≡ rises t k i → b ≡ entryRight t k i
   unfolding entryRight
   order-decides i {b} e f = f ∙ simp e
-
-  -- ---- a part
-
-  pub part-too-long : withinLimit t k ≡ false → false ≡ partRight t k
-  unfolding partRight
-  part-too-long e = simp e
-
-  pub part-broken : (n i : ℕ) → n ≡ count t k → i < n → entryRight t k i ≡ false → false ≡ partRight t k
-  unfolding partRight
-  part-broken n i f p e = sym (and-false-right (withinLimit t k) _ (every-broken (entryRight t k) (count t k) i (omega arith) e))
-
-  pub part-whole : (n i : ℕ) → n ≡ count t k → i ≤ n → n ≤ i → withinLimit t k ≡ true → every (entryRight t k) i ≡ true → true ≡ partRight t k
-  unfolding partRight
-  part-whole n i f p q l e =
-      let g : i ≡ count t k = omega arith in
-      let h : every (entryRight t k) (count t k) ≡ true = rw g at e in
-      simp (l, h)
-
--- ---- the whole
-
-module _ (t : List ℕ) where
-  pub layout-wrong : laidOut t ≡ false → false ≡ valid t
-  unfolding valid
-  layout-wrong a = simp a
-
-  module _ (a : laidOut t ≡ true) where
-    pub operations-wrong : partRight t Operations ≡ false → false ≡ valid t
-    unfolding valid
-    operations-wrong p = simp (a, p)
-
-    module _ (p : partRight t Operations ≡ true) where
-      pub errors-wrong : partRight t Errors ≡ false → false ≡ valid t
-      unfolding valid
-      errors-wrong q = simp (a, p, q)
-
-      module _ (q : partRight t Errors ≡ true) where
-        pub error-pairs-wrong : partRight t ErrorPairs ≡ false → false ≡ valid t
-        unfolding valid
-        error-pairs-wrong r = simp (a, p, q, r)
-
-        pub child-pairs-decide : {b : Bool} → partRight t ErrorPairs ≡ true → b ≡ partRight t ChildPairs → b ≡ valid t
-        unfolding valid
-        child-pairs-decide {b} r e = e ∙ simp (a, p, q, r)

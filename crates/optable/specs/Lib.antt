@@ -2,5 +2,6 @@
 pub mod Count
 pub mod Read
 pub mod Validity
+pub mod Fault
 pub mod Lookup
 pub mod Value

@@ -1,13 +1,14 @@
 // The operation table: whether octets are a valid one, and what it says of a code: document 01, 'Operation table'.
 ghost use mathlib.Core.Path.{_≡_};
 ghost use Rattle.optable.specs.Validity.{valid};
+ghost use Rattle.optable.specs.Fault.{firstFault};
 ghost use Rattle.optable.specs.Lookup.{operationIn, errorIn, paired, childOf, hasChild, CodeAnswer, PairAnswer};
 ghost use Rattle.ber.specs.Element.{given};
 ghost use Rattle.optable.specs.Value.{valueRight};
 
 mod answer;
 mod lookup;
-mod read;
+pub mod read;
 mod validity;
 
 use lookup::find;
@@ -17,7 +18,7 @@ use read::error_at;
 use read::operation_at;
 use records::Code;
 use validity::is_laid_out;
-use validity::is_part_right;
+use validity::part_fault;
 
 // The parts of a table, in their order.
 pub enum Part {
@@ -39,6 +40,14 @@ pub struct Rule {
     pub optional: bool,
 }
 
+// What is wrong with a table: the offsets or its length, a part's count, or an entry.
+pub enum Fault {
+    Nothing,
+    Layout,
+    Count(Part),
+    Entry { part: Part, index: u16 },
+}
+
 pub enum Operation {
     Listed {
         class: u8,
@@ -54,22 +63,32 @@ pub enum Error {
     Unknown,
 }
 
+// The first fault of a table, in document 01's order.
+pub fn first_fault(table: &[u8]) -> Fault
+    ensures { λ r. ⌜ r ≡ firstFault (now (table .entry)) ⌝ }
+{
+    if !is_laid_out(table) {
+        return Fault::Layout;
+    }
+    let operations = part_fault(table, Part::Operations);
+    if !operations.is_nothing() {
+        return operations;
+    }
+    let errors = part_fault(table, Part::Errors);
+    if !errors.is_nothing() {
+        return errors;
+    }
+    let pairs = part_fault(table, Part::ErrorPairs);
+    if !pairs.is_nothing() {
+        return pairs;
+    }
+    part_fault(table, Part::ChildPairs)
+}
+
 pub fn valid(table: &[u8]) -> bool
     ensures { λ r. ⌜ r ≡ valid (now (table .entry)) ⌝ }
 {
-    if !is_laid_out(table) {
-        return false;
-    }
-    if !is_part_right(table, Part::Operations) {
-        return false;
-    }
-    if !is_part_right(table, Part::Errors) {
-        return false;
-    }
-    if !is_part_right(table, Part::ErrorPairs) {
-        return false;
-    }
-    is_part_right(table, Part::ChildPairs)
+    first_fault(table).is_nothing()
 }
 
 pub fn operation_of(table: &[u8], code: Code) -> Operation

@@ -60,7 +60,8 @@ fn size_of(part: Part) -> usize
     }
 }
 
-pub(crate) fn second_part(part: Part) -> Part
+// The part that a pair's second index is of.
+pub fn second_part(part: Part) -> Part
     ensures { λ r. ⌜ r ≡ secondPart part ⌝ }
 {
     match part {
@@ -71,33 +72,33 @@ pub(crate) fn second_part(part: Part) -> Part
     }
 }
 
-pub(crate) fn count(table: &[u8], part: Part) -> u16
+pub fn count(table: &[u8], part: Part) -> u16
     ensures { λ r. ⌜ r ≡ count (now (table .entry)) part ⌝ }
 {
     two(table, head_of(part))
 }
 
-pub(crate) fn start(table: &[u8], part: Part) -> usize
+pub fn start(table: &[u8], part: Part) -> usize
     ensures { λ r. ⌜ (r ≡ start (now (table .entry)) part) × (r < 65536) ⌝ }
 {
     two(table, head_of(part) + 2) as usize
 }
 
 // Where entry `i` starts.
-pub(crate) fn entry_place(table: &[u8], part: Part, i: u16) -> usize
+pub fn entry_place(table: &[u8], part: Part, i: u16) -> usize
     ensures { λ r. ⌜ (r ≡ place (now (table .entry)) part i) × (r < 1048560) ⌝ }
 {
     start(table, part) + (i as usize) * size_of(part)
 }
 
 // Octet `n` of entry `i`.
-pub(crate) fn octet_at(table: &[u8], part: Part, i: u16, n: u8) -> u8
+pub fn octet_at(table: &[u8], part: Part, i: u16, n: u8) -> u8
     ensures { λ r. ⌜ r ≡ octetAt (now (table .entry)) part i n ⌝ }
 {
     octet(table, entry_place(table, part, i) + (n as usize))
 }
 
-pub(crate) fn code_at(table: &[u8], part: Part, i: u16) -> Code
+pub fn code_at(table: &[u8], part: Part, i: u16) -> Code
     ensures { λ r. ⌜ r ≡ codeAt (now (table .entry)) part i ⌝ }
 {
     Code(four(table, entry_place(table, part, i)))
@@ -110,19 +111,19 @@ pub(crate) fn has_code(table: &[u8], part: Part, code: Code, i: u16) -> bool
     there.same(code)
 }
 
-pub(crate) fn first_at(table: &[u8], part: Part, i: u16) -> u16
+pub fn first_at(table: &[u8], part: Part, i: u16) -> u16
     ensures { λ r. ⌜ r ≡ firstAt (now (table .entry)) part i ⌝ }
 {
     two(table, entry_place(table, part, i))
 }
 
-pub(crate) fn second_at(table: &[u8], part: Part, i: u16) -> u16
+pub fn second_at(table: &[u8], part: Part, i: u16) -> u16
     ensures { λ r. ⌜ r ≡ secondAt (now (table .entry)) part i ⌝ }
 {
     two(table, entry_place(table, part, i) + 2)
 }
 
-pub(crate) fn operation_at(table: &[u8], i: u16) -> Operation
+pub fn operation_at(table: &[u8], i: u16) -> Operation
     ensures { λ r. ⌜ r ≡ operationAt (now (table .entry)) i ⌝ }
 {
     let flags = octet_at(table, Part::Operations, i, 7);
@@ -139,7 +140,7 @@ pub(crate) fn operation_at(table: &[u8], i: u16) -> Operation
     }
 }
 
-pub(crate) fn error_at(table: &[u8], i: u16) -> Error
+pub fn error_at(table: &[u8], i: u16) -> Error
     ensures { λ r. ⌜ r ≡ errorAt (now (table .entry)) i ⌝ }
 {
     let flag = octet_at(table, Part::Errors, i, 5);

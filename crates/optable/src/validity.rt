@@ -1,7 +1,10 @@
 // Whether a table is valid, part by part.
 ghost use mathlib.Core.Path.{_≡_};
-ghost use Rattle.optable.specs.Validity.{limitOf, withinLimit, behind, laidOut, ruleRight, operationRight, allowed, pairRight, coded, pairBelow, above, rises, fieldsRight, entryRight, partRight};
+ghost use Rattle.optable.specs.Validity.{limitOf, withinLimit, behind, laidOut, operationRight, allowed, pairRight, coded, pairBelow, above, rises, fieldsRight, entryRight};
+ghost use Rattle.optable.specs.Fault.{firstWrong, partFault};
+use crate::Fault;
 use crate::Part;
+use crate::Place;
 use crate::Rule;
 use crate::read::code_at;
 use crate::read::count;
@@ -57,15 +60,6 @@ pub(crate) fn is_laid_out(table: &[u8]) -> bool
     table.len() == behind(table, Part::ChildPairs)
 }
 
-fn is_rule_right(rule: Rule) -> bool
-    ensures { λ r. ⌜ r ≡ ruleRight rule ⌝ }
-{
-    if rule.identifier == 0 {
-        return !rule.optional;
-    }
-    rule.identifier % 32 != 31
-}
-
 fn is_operation_right(class: u8, flags: u8, argument: Rule, result: Rule) -> bool
     ensures { λ r. ⌜ r ≡ operationRight class flags argument result ⌝ }
 {
@@ -78,10 +72,10 @@ fn is_operation_right(class: u8, flags: u8, argument: Rule, result: Rule) -> boo
     if flags > 3 {
         return false;
     }
-    if !is_rule_right(argument) {
+    if !argument.is_right() {
         return false;
     }
-    if !is_rule_right(result) {
+    if !result.is_right() {
         return false;
     }
     if class == 3 {
@@ -190,7 +184,7 @@ fn is_error_at_right(table: &[u8], i: u16) -> bool
     if octet_at(table, Part::Errors, i, 5) > 1 {
         return false;
     }
-    is_rule_right(error.parameter())
+    error.parameter().is_right()
 }
 
 // Whether entry `i` is right by itself.
@@ -214,20 +208,29 @@ fn is_entry_right(table: &[u8], part: Part, i: u16) -> bool
     is_rising(table, part, i)
 }
 
-// One walk over a part.
-pub(crate) fn is_part_right(table: &[u8], part: Part) -> bool
-    ensures { λ r. ⌜ r ≡ partRight (now (table .entry)) part ⌝ }
+// One walk over a part, to its first entry that is wrong.
+fn first_wrong(table: &[u8], part: Part) -> Place
+    ensures { λ r. ⌜ r ≡ firstWrong (now (table .entry)) part ⌝ }
 {
-    if !is_within_limit(table, part) {
-        return false;
-    }
     let n = count(table, part);
     let mut i: u16 = 0;
     while i < n {
         if !is_entry_right(table, part, i) {
-            return false;
+            return Place::At(i);
         }
         i += 1;
     }
-    true
+    Place::Nowhere
+}
+
+pub(crate) fn part_fault(table: &[u8], part: Part) -> Fault
+    ensures { λ r. ⌜ r ≡ partFault (now (table .entry)) part ⌝ }
+{
+    if !is_within_limit(table, part) {
+        return Fault::Count(part);
+    }
+    match first_wrong(table, part) {
+        Place::At(index) => Fault::Entry { part, index },
+        Place::Nowhere => Fault::Nothing,
+    }
 }

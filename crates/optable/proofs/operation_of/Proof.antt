@@ -21,7 +21,10 @@ enum-told c = search needs
 
 returns : tie.Need-returns
 unfolding operationIn
-returns c = read-of-place _ _ _ _ _ (At (c .before .before .i .given .0 .0)) _ (c .before .before .before .before .find .ensures) (cc) (c .operation-at .ensures)
+returns c =
+    let i = c .before .before in
+    let find = i .before .before in
+    read-of-place _ _ _ _ _ (At (i .i .given .0 .0)) _ (find .find .ensures) (cc) (c .operation-at .ensures)
 
 returns-2 : tie.Need-returns-2
 unfolding operationIn

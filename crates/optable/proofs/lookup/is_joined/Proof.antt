@@ -30,9 +30,10 @@ enum-told-2 c = search needs
 
 returns-2 : tie.Need-returns-2
 returns-2 c =
-    let s = c .before .before .before in
+    let find2 = c .before .before in
+    let s = find2 .before in
     let a = s .before .before .before .before in
-    second-nowhere _ _ (cc) _ _ (a .find .result) (a .find .ensures) (s .second-part .result) (cc) _ (c .before .before .find2 .ensures) (cc)
+    second-nowhere _ _ (cc) _ _ (a .find .result) (a .find .ensures) (s .second-part .result) (cc) _ (find2 .find2 .ensures) (cc)
 
 has-pair-requires : tie.Need-has-pair-requires
 has-pair-requires c κs = search needs
@@ -42,7 +43,8 @@ returns-3 c =
     let f = c .before .before .before .before in
     let s = f .before in
     let a = s .before .before .before .before in
-    joined-by-indexes _ _ (cc) _ _ (a .find .result) (a .find .ensures) (s .second-part .result) (cc) (f .find2 .result) (f .find2 .ensures) _ _ (cc) (cc) _ (c .has-pair .ensures)
+    joined-by-indexes _ _ (cc) _ _ (a .find .result) (a .find .ensures) (s .second-part .result) (cc) (f .find2 .result) (f .find2 .ensures) _ _ (cc)
+    (cc) _ (c .has-pair .ensures)
 
 pub is-joined-spec : {M : Type 1} → statement M
 is-joined-spec =

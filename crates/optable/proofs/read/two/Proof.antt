@@ -28,7 +28,9 @@ cast-result-2 : tie.Need-cast-result-2
 cast-result-2 c = omega (arith, c .shared-slice-known3 .given (c .before .before .before .before .args .at + 1))
 
 add-result-2 : tie.Need-add-result-2
-add-result-2 c = omega (arith, c .shared-slice-known3 .given (c .before .before .before .before .args .at), c .shared-slice-known3 .given (c .before .before .before .before .args .at + 1))
+add-result-2 c =
+    let start = c .before .before .before .before in
+    omega (arith, c .shared-slice-known3 .given (start .args .at), c .shared-slice-known3 .given (start .args .at + 1))
 
 returns : tie.Need-returns
 returns c = search needs

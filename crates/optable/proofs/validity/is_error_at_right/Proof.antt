@@ -17,11 +17,14 @@ returns c = error-flag-high _ _ (omega arith)
 parameter-requires : tie.Need-parameter-requires
 parameter-requires c κs = search needs
 
-is-rule-right-requires : tie.Need-is-rule-right-requires
-is-rule-right-requires c κs = search needs
+is-right-requires : tie.Need-is-right-requires
+is-right-requires c κs = search needs
 
 returns-2 : tie.Need-returns-2
-returns-2 c = error-rule-decides _ _ (omega arith) (c .before .before .before .before .error-at .ensures) (c .before .parameter .ensures) (c .is-rule-right .ensures)
+returns-2 c =
+    let parameter = c .before in
+    let error-at = parameter .before .before .before in
+    error-rule-decides _ _ (omega arith) (error-at .error-at .ensures) (parameter .parameter .ensures) (c .is-right .ensures)
 
 pub is-error-at-right-spec : {M : Type 1} → statement M
 is-error-at-right-spec =
@@ -31,5 +34,5 @@ is-error-at-right-spec =
     octet-at-requires
     returns
     parameter-requires
-    is-rule-right-requires
+    is-right-requires
     returns-2)

@@ -24,8 +24,11 @@ is-operation-right-requires c κs = search needs
 
 returns : tie.Need-returns
 returns c =
-    let a = c .before .before .before in
-    operation-fields-decide _ _ (a .before .before .operation-at .ensures) (a .before .octet-at .ensures) (a .class .ensures) (c .before .before .argument .ensures) (c .before .result .ensures) (c .is-operation-right .ensures)
+    let result = c .before in
+    let argument = result .before in
+    let a = argument .before in
+    operation-fields-decide _ _ (a .before .before .operation-at .ensures) (a .before .octet-at .ensures) (a .class .ensures)
+    (argument .argument .ensures) (result .result .ensures) (c .is-operation-right .ensures)
 
 pub is-operation-at-right-spec : {M : Type 1} → statement M
 is-operation-at-right-spec =

@@ -15,47 +15,47 @@ returns-2 c = class-high _ _ _ _ (omega arith) (omega arith)
 returns-3 : tie.Need-returns-3
 returns-3 c = flags-high _ _ _ _ (omega arith) (omega arith) (omega arith)
 
-is-rule-right-requires : tie.Need-is-rule-right-requires
-is-rule-right-requires c κs = search needs
+is-right-requires : tie.Need-is-right-requires
+is-right-requires c κs = search needs
 
 returns-4 : tie.Need-returns-4
 returns-4 c =
     argument-wrong _ _ _ _ (omega arith) (omega arith) (omega arith)
-    (said-no (c .before .is-rule-right .ensures) (c .if4 .taken))
+    (said-no (c .before .is-right .ensures) (c .if4 .taken))
 
-is-rule-right-requires-2 : tie.Need-is-rule-right-requires-2
-is-rule-right-requires-2 c κs = search needs
+is-right-requires-2 : tie.Need-is-right-requires-2
+is-right-requires-2 c κs = search needs
 
 returns-5 : tie.Need-returns-5
 returns-5 c =
     let a = c .before .before in
     result-wrong _ _ _ _ (omega arith) (omega arith) (omega arith)
-    (said-yes (a .before .is-rule-right .ensures) (a .if4 .left))
-    (said-no (c .before .is-rule-right2 .ensures) (c .if5 .taken))
+    (said-yes (a .before .is-right .ensures) (a .if4 .left))
+    (said-no (c .before .is-right2 .ensures) (c .if5 .taken))
 
 returns-6 : tie.Need-returns-6
 returns-6 c =
     let b = c .before .before in
     let a = b .before .before in
     class-3-decides _ _ _ _ (omega arith) (omega arith) (omega arith)
-    (said-yes (a .before .is-rule-right .ensures) (a .if4 .left))
-    (said-yes (b .before .is-rule-right2 .ensures) (b .if5 .left)) (omega arith)
+    (said-yes (a .before .is-right .ensures) (a .if4 .left))
+    (said-yes (b .before .is-right2 .ensures) (b .if5 .left)) (omega arith)
 
 returns-7 : tie.Need-returns-7
 returns-7 c =
     let b = c .before .before .before in
     let a = b .before .before in
     class-5-decides _ _ _ _ (omega arith) (omega arith) (omega arith)
-    (said-yes (a .before .is-rule-right .ensures) (a .if4 .left))
-    (said-yes (b .before .is-rule-right2 .ensures) (b .if5 .left)) (omega arith)
+    (said-yes (a .before .is-right .ensures) (a .if4 .left))
+    (said-yes (b .before .is-right2 .ensures) (b .if5 .left)) (omega arith)
 
 returns-8 : tie.Need-returns-8
 returns-8 c =
     let b = c .before .before in
     let a = b .before .before in
     other-class-right _ _ _ _ (omega arith) (omega arith) (omega arith)
-    (said-yes (a .before .is-rule-right .ensures) (a .if4 .left))
-    (said-yes (b .before .is-rule-right2 .ensures) (b .if5 .left)) (omega arith) (omega arith)
+    (said-yes (a .before .is-right .ensures) (a .if4 .left))
+    (said-yes (b .before .is-right2 .ensures) (b .if5 .left)) (omega arith) (omega arith)
 
 pub is-operation-right-spec : {M : Type 1} → statement M
 is-operation-right-spec =
@@ -64,9 +64,9 @@ is-operation-right-spec =
     returns
     returns-2
     returns-3
-    is-rule-right-requires
+    is-right-requires
     returns-4
-    is-rule-right-requires-2
+    is-right-requires-2
     returns-5
     returns-6
     returns-7

@@ -1,0 +1,47 @@
+-- The count decides, then the first wrong entry.
+use Rattle.base.proofs.Tests.{said-no, said-yes}
+use Rattle.optable.specs.declared.Place.the-variants.{At, Nowhere}
+use Rattle.optable.proofs.FaultLaws.{part-too-long, entry-decides}
+use borrow.Author.Needs.{needs}
+use Rattle.optable.proofs.validity.part_fault.Statement.{statement}
+use Rattle.optable.proofs.validity.part_fault.Tie as tie
+
+is-within-limit-requires : tie.Need-is-within-limit-requires
+is-within-limit-requires c κs = search needs
+
+returns : tie.Need-returns
+returns c = part-too-long _ _ (said-no (c .before .is-within-limit .ensures) (c .if1 .taken))
+
+first-wrong-requires : tie.Need-first-wrong-requires
+first-wrong-requires c κs = search needs
+
+enum-known-index : tie.Need-enum-known-index
+enum-known-index c = search needs
+
+enum-told : tie.Need-enum-told
+enum-told c = search needs
+
+returns-2 : tie.Need-returns-2
+returns-2 c =
+    let index = c .before in
+    let f = index .before .before in
+    let l = f .before in
+    entry-decides _ _ (At (index .index .given .0 .0)) (said-yes (l .before .is-within-limit .ensures) (l .if1 .left)) (f .first-wrong .ensures) (cc)
+
+returns-3 : tie.Need-returns-3
+returns-3 c =
+    let f = c .before .before in
+    let l = f .before in
+    entry-decides _ _ Nowhere (said-yes (l .before .is-within-limit .ensures) (l .if1 .left)) (f .first-wrong .ensures) (cc)
+
+pub part-fault-spec : {M : Type 1} → statement M
+part-fault-spec =
+    tie.close
+    (tie.spec
+    is-within-limit-requires
+    returns
+    first-wrong-requires
+    enum-known-index
+    enum-told
+    returns-2
+    returns-3)
