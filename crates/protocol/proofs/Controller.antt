@@ -31,7 +31,8 @@ use Rattle.protocol.proofs.Checks.{Pass, settle}
 use Rattle.protocol.proofs.Ids.{in-code, in-last, in-member, one-code}
 use Rattle.protocol.proofs.Steady.{Steady}
 use Rattle.protocol.proofs.Written.{limits-size, limits-value, peer-with, peer-beside}
-use Rattle.protocol.proofs.Invariant.{ends-apart, Known, NoAnswer, Told, Kept, spoken-wired, sent-wired, sent-answer, known-heard, known-retire}
+use Rattle.protocol.proofs.Invariant.{Known, NoAnswer, Told, Kept}
+use Rattle.protocol.proofs.Keeping.{ends-apart, spoken-wired, sent-wired, sent-answer, known-heard, known-retire}
 use Rattle.protocol.proofs.Kiosk.{kept-refused}
 
 -- ---- what was told stays told

@@ -32,7 +32,8 @@ use Rattle.protocol.specs.Demand3.{InRange}
 use Rattle.protocol.proofs.Checks.{Pass, settle}
 use Rattle.protocol.proofs.Steady.{Steady}
 use Rattle.protocol.proofs.Written.{refusal-first, limits-size, limits-value, number-fits, own-with, own-beside}
-use Rattle.protocol.proofs.Invariant.{ends-apart, Ours, Spoken, Kept, spoken-wired, wired-cases, sent-wired, ours-retire, ours-show, ours-ask, known-asked}
+use Rattle.protocol.proofs.Invariant.{Ours, Spoken, Kept}
+use Rattle.protocol.proofs.Keeping.{ends-apart, spoken-wired, wired-cases, sent-wired, ours-retire, ours-show, ours-ask, known-asked}
 
 -- what a call asks of the ids used: its own, if it is an invoke
 abbrev pub isInvoke : Call → Bool

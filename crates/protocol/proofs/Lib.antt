@@ -1,9 +1,10 @@
--- Laws and proofs of the protocol. Theorem has demand 3, Steady the run of one end, Marked P1 to P12, Witness and Instance the runs that compute.
+-- Laws and proofs of the protocol. Theorem has demand 3, Invariant what it rests on, Steady the run of one end, Marked P1 to P12, Witness and Instance the runs that compute.
 mod Marked
 pub mod Checks
 mod Ids
 pub mod Steady
 mod Invariant
+mod Keeping
 mod Written
 mod Kiosk
 mod Controller

@@ -21,7 +21,7 @@ use Rattle.records.proofs.Soundness.{Sound, view-added}
 use Rattle.apdu.specs.declared.Number.{Number}
 use Rattle.apdu.specs.declared.Number.the-variants.{Of, Absent}
 use Rattle.apdu.proofs.FirstOctet.{first-reject}
-use Rattle.apdu.proofs.RoundTrip.{NumberFits, ValueFits}
+use Rattle.apdu.proofs.FieldRoundTrip.{NumberFits, ValueFits}
 use Rattle.protocol.specs.Call.{Refusal, plain, rejecting, rejectWritten}
 use Rattle.protocol.specs.Check.{isFull, isSilent, ownRecords, peerRecords, valueWell, withinLimits}
 use Rattle.protocol.specs.Receive.{withPeer}

@@ -34,10 +34,10 @@ abbrev pub eachOnce : List ℕ → Bool
 eachOnce [] = true
 eachOnce (x ∷ l) = not (among x l) && eachOnce l
 
--- the code last noted with an id
+-- the code last noted with an id, 0 where there is none
 abbrev pub lastCode : ℕ → List Record → Code
 lastCode i [] = record { 0 = 0 }
-lastCode i (r ∷ l) = cond (among i (idsOf l)) (lastCode i l) (r .code)
+lastCode i (r ∷ l) = cond (among i (idsOf l)) (lastCode i l) (cond (eqb (r .id) i) (r .code) (record { 0 = 0 }))
 
 -- ---- the list of calls: each names its end
 
