@@ -1,6 +1,7 @@
 pub mod Answers
 pub mod FieldLaws
 pub mod SizeLaws
+pub mod FieldRoundTrip
 pub mod RoundTrip
 pub mod FirstOctet
 pub mod RejectKind

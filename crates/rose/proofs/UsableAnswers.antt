@@ -14,15 +14,13 @@ use Rattle.records.specs.declared.Records.{Records}
 use Rattle.records.specs.declared.State.{State}
 use Rattle.records.specs.declared.Found.the-variants.{Operation}
 use Rattle.records.specs.Records.{unused, view, member, lookup}
-use Rattle.records.specs.State.{soundState, addOwn, addPeer}
+use Rattle.records.specs.State.{soundState}
 use Rattle.records.proofs.Steps.{left-at}
 use Rattle.optable.specs.declared.Operation.{Operation as Named}
 use Rattle.optable.specs.Validity.{valid}
 use Rattle.optable.specs.Lookup.{operationOf, listed, classOf}
 use Rattle.protocol.specs.declared.Refusal.the-variants.{InvalidTable, UnsoundState}
 use Rattle.protocol.specs.Check.{covered, usable, isBusy, isSilent, shared, ownRecords, peerRecords}
-use Rattle.protocol.specs.Receive.{withPeer}
-use Rattle.protocol.specs.Perform.{withOwn}
 use Rattle.protocol.specs.Reading.{readRefusal}
 use Rattle.rose.proofs.Verdicts.{none-passes}
 use Rattle.rose.specs.declared.Verdict.the-variants.{Passes, Fails}
@@ -111,18 +109,14 @@ opened-valid T s e = and-left _ _ (not-false (valid T && (covered T (ownRecords 
 
 -- ---- a record more, unless the class makes none
 
-module _ (T : List ℕ) (s : State) (i : ℕ) (c : Code) (o : Named) (e : o ≡ operationOf T c) where
+module _ (T : List ℕ) (s : State) (c : Code) (o : Named) (e : o ≡ operationOf T c) where
   silent-is : (b : Bool) → eqb (classOf o) 5 ≡ b → isSilent T c ≡ b
   silent-is b q = ap (λ (n : Named). eqb (classOf n) 5) (sym e) ∙ q
 
-  pub own-silent : classOf o ≡ 5 → s ≡ withOwn T s i c
-  own-silent h = cond-true s _ (silent-is true (eq-eqb (classOf o) 5 h))
+  -- t is the state with the record
+  module _ (t : State) where
+    pub no-record : classOf o ≡ 5 → s ≡ cond (isSilent T c) s t
+    no-record h = cond-true s t (silent-is true (eq-eqb (classOf o) 5 h))
 
-  pub own-recorded : (classOf o ≡ 5 → ⊥) → addOwn s (record { 0 = i }) c ≡ withOwn T s i c
-  own-recorded h = cond-false s _ (silent-is false (ne-eqb (classOf o) 5 h))
-
-  pub peer-silent : classOf o ≡ 5 → s ≡ withPeer T s i c
-  peer-silent h = cond-true s _ (silent-is true (eq-eqb (classOf o) 5 h))
-
-  pub peer-recorded : (classOf o ≡ 5 → ⊥) → addPeer s (record { 0 = i }) c ≡ withPeer T s i c
-  peer-recorded h = cond-false s _ (silent-is false (ne-eqb (classOf o) 5 h))
+    pub one-record : (classOf o ≡ 5 → ⊥) → t ≡ cond (isSilent T c) s t
+    one-record h = cond-false s t (silent-is false (ne-eqb (classOf o) 5 h))

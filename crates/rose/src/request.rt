@@ -140,12 +140,8 @@ pub(crate) fn check_invoke(
     if lacks_room(named.class(), own) {
         return Verdict::Fails(Refusal::RecordsFull);
     }
-    check_size(
-        1,
-        value,
-        invoke_size(id.0, link_number(linked), code, value),
-        room,
-    )
+    let size = invoke_size(id.0, link_number(linked), code, value);
+    check_size(1, value, size, room)
 }
 
 pub(crate) fn check_result(

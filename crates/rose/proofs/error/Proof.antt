@@ -21,13 +21,23 @@ refused-requires : tie.Need-refused-requires
 refused-requires c κs = search needs
 
 returns : tie.Need-returns
-returns c = opening-refused ((c .before .before .before .before .before .before .before .before .args .table) .now) (c .before .before .before .before .before .before .before .before .args .state) (error ((c .before .before .before .before .before .before .before .before .args .id) .0) (c .before .before .before .before .before .before .before .before .args .code) ((c .before .before .before .before .before .before .before .before .args .value) .now) (length ((c .before .before .before .before .before .before .before .before .args .out) .now))) (c .before .before .before .before .opening .result) (c .before .before .before .before .opening .ensures) (c .before .before .why .given .0 .0) (cc) ((c .before .before .before .before .before .before .before .before .args .out) .now) _ (c .refused .ensures)
+returns c =
+    let why = c .before .before in
+    let opening = why .before .before in
+    let start = opening .before .before .before .before in
+    opening-refused (start .args .table .now) (start .args .state)
+    (error (start .args .id .0) (start .args .code) (start .args .value .now) (length (start .args .out .now))) (opening .opening .result)
+    (opening .opening .ensures) (why .why .given .0 .0) (cc) (start .args .out .now) _ (c .refused .ensures)
 
 enum-told : tie.Need-enum-told
 enum-told c = search needs
 
 check-error-requires : tie.Need-check-error-requires
-check-error-requires c κs = opened-valid ((c .before .before .before .before .before .before .args .table) .now) (c .before .before .before .before .before .before .args .state) (verdict-passes (c .before .before .opening .result) (shared ((c .before .before .before .before .before .before .args .table) .now) (c .before .before .before .before .before .before .args .state)) (c .before .before .opening .ensures) (cc))
+check-error-requires c κs =
+    let opening = c .before .before in
+    let start = opening .before .before .before .before in
+    opened-valid (start .args .table .now) (start .args .state)
+    (verdict-passes (opening .opening .result) (shared (start .args .table .now) (start .args .state)) (opening .opening .ensures) (cc))
 
 enum-known-why-2 : tie.Need-enum-known-why-2
 enum-known-why-2 c = search needs
@@ -36,7 +46,17 @@ refused-requires-2 : tie.Need-refused-requires-2
 refused-requires-2 c κs = search needs
 
 returns-2 : tie.Need-returns-2
-returns-2 c = later-refused ((c .before .before .before .before .before .before .before .before .before .before .before .args .table) .now) (c .before .before .before .before .before .before .before .before .before .before .before .args .state) (error ((c .before .before .before .before .before .before .before .before .before .before .before .args .id) .0) (c .before .before .before .before .before .before .before .before .before .before .before .args .code) ((c .before .before .before .before .before .before .before .before .before .before .before .args .value) .now) (length ((c .before .before .before .before .before .before .before .before .before .before .before .args .out) .now))) (c .before .before .before .before .before .before .before .opening .result) (c .before .before .before .before .before .before .before .opening .ensures) (cc) (c .before .before .why2 .given .0 .0) (verdict-fails (c .before .before .before .before .check-error .result) (laterChecks ((c .before .before .before .before .before .before .before .before .before .before .before .args .table) .now) (c .before .before .before .before .before .before .before .before .before .before .before .args .state) (error ((c .before .before .before .before .before .before .before .before .before .before .before .args .id) .0) (c .before .before .before .before .before .before .before .before .before .before .before .args .code) ((c .before .before .before .before .before .before .before .before .before .before .before .args .value) .now) (length ((c .before .before .before .before .before .before .before .before .before .before .before .args .out) .now)))) (c .before .before .why2 .given .0 .0) (c .before .before .before .before .check-error .ensures) (cc)) (error-plain ((c .before .before .before .before .before .before .before .before .before .before .before .args .table) .now) (c .before .before .before .before .before .before .before .before .before .before .before .args .state) ((c .before .before .before .before .before .before .before .before .before .before .before .args .id) .0) ((c .before .before .before .before .before .before .before .before .before .before .before .args .value) .now) (length ((c .before .before .before .before .before .before .before .before .before .before .before .args .out) .now)) (c .before .before .before .before .before .before .before .before .before .before .before .args .code)) ((c .before .before .before .before .before .before .before .before .before .before .before .args .out) .now) _ (c .refused2 .ensures)
+returns-2 c =
+    let why2 = c .before .before in
+    let check-error = why2 .before .before in
+    let opening = check-error .before .before .before in
+    let start = opening .before .before .before .before in
+    later-refused (start .args .table .now) (start .args .state)
+    (error (start .args .id .0) (start .args .code) (start .args .value .now) (length (start .args .out .now))) (opening .opening .result)
+    (opening .opening .ensures) (cc) (why2 .why2 .given .0 .0)
+    (verdict-fails (check-error .check-error .result) (laterChecks (start .args .table .now) (start .args .state) (error (start .args .id .0) (start .args .code) (start .args .value .now) (length (start .args .out .now)))) (why2 .why2 .given .0 .0) (check-error .check-error .ensures) (cc))
+    (error-plain (start .args .table .now) (start .args .state) (start .args .id .0) (start .args .value .now) (length (start .args .out .now)) (start .args .code))
+    (start .args .out .now) _ (c .refused2 .ensures)
 
 enum-told-2 : tie.Need-enum-told-2
 enum-told-2 c = search needs
@@ -54,7 +74,16 @@ same-length : tie.Need-same-length
 same-length c = search needs
 
 returns-3 : tie.Need-returns-3
-returns-3 c = error-accepted ((c .before .before .before .before .before .before .before .before .before .before .before .before .before .before .before .args .table) .now) (c .before .before .before .before .before .before .before .before .before .before .before .before .before .before .before .args .state) (c .before .before .before .before .before .before .before .before .before .before .before .opening .result) (c .before .before .before .before .before .before .before .before .before .before .before .opening .ensures) (cc) ((c .before .before .before .before .before .before .before .before .before .before .before .before .before .before .before .args .out) .now) _ _ (c .before .retire-peer .result) _ (c .accepted .ensures) ((c .before .before .before .before .before .before .before .before .before .before .before .before .before .before .before .args .id) .0) ((c .before .before .before .before .before .before .before .before .before .before .before .before .before .before .before .args .value) .now) (c .before .before .before .before .before .before .before .before .before .before .before .before .before .before .before .args .code) (verdict-passes (c .before .before .before .before .before .before .before .before .check-error .result) (laterChecks ((c .before .before .before .before .before .before .before .before .before .before .before .before .before .before .before .args .table) .now) (c .before .before .before .before .before .before .before .before .before .before .before .before .before .before .before .args .state) (error ((c .before .before .before .before .before .before .before .before .before .before .before .before .before .before .before .args .id) .0) (c .before .before .before .before .before .before .before .before .before .before .before .before .before .before .before .args .code) ((c .before .before .before .before .before .before .before .before .before .before .before .before .before .before .before .args .value) .now) (length ((c .before .before .before .before .before .before .before .before .before .before .before .before .before .before .before .args .out) .now)))) (c .before .before .before .before .before .before .before .before .check-error .ensures) (cc)) (c .before .retire-peer .ensures) (c .before .before .before .before .write-error .ensures)
+returns-3 c =
+    let retire-peer = c .before in
+    let write-error = retire-peer .before .before .before in
+    let check-error = write-error .before .before .before .before in
+    let opening = check-error .before .before .before in
+    let start = opening .before .before .before .before in
+    error-accepted (start .args .table .now) (start .args .state) (opening .opening .result) (opening .opening .ensures) (cc) (start .args .out .now)
+    _ _ (retire-peer .retire-peer .result) _ (c .accepted .ensures) (start .args .id .0) (start .args .value .now) (start .args .code)
+    (verdict-passes (check-error .check-error .result) (laterChecks (start .args .table .now) (start .args .state) (error (start .args .id .0) (start .args .code) (start .args .value .now) (length (start .args .out .now)))) (check-error .check-error .ensures) (cc))
+    (retire-peer .retire-peer .ensures) (write-error .write-error .ensures)
 
 pub error-spec : {M : Type 1} → statement M
 error-spec = tie.close (tie.spec opening-requires enum-known-why refused-requires returns enum-told check-error-requires enum-known-why-2 refused-requires-2 returns-2 enum-told-2 write-error-requires retire-peer-requires accepted-requires same-length returns-3)

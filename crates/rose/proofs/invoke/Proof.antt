@@ -24,13 +24,23 @@ refused-requires : tie.Need-refused-requires
 refused-requires c κs = search needs
 
 returns : tie.Need-returns
-returns c = opening-refused ((c .before .before .before .before .before .before .before .before .args .table) .now) (c .before .before .before .before .before .before .before .before .args .state) (invoke ((c .before .before .before .before .before .before .before .before .args .id) .0) (c .before .before .before .before .before .before .before .before .args .code) (readPeerLink (c .before .before .before .before .before .before .before .before .args .linked)) ((c .before .before .before .before .before .before .before .before .args .value) .now) (length ((c .before .before .before .before .before .before .before .before .args .out) .now))) (c .before .before .before .before .opening .result) (c .before .before .before .before .opening .ensures) (c .before .before .why .given .0 .0) (cc) ((c .before .before .before .before .before .before .before .before .args .out) .now) _ (c .refused .ensures)
+returns c =
+    let why = c .before .before in
+    let opening = why .before .before in
+    let start = opening .before .before .before .before in
+    opening-refused (start .args .table .now) (start .args .state)
+    (invoke (start .args .id .0) (start .args .code) (readPeerLink (start .args .linked)) (start .args .value .now) (length (start .args .out .now)))
+    (opening .opening .result) (opening .opening .ensures) (why .why .given .0 .0) (cc) (start .args .out .now) _ (c .refused .ensures)
 
 enum-told : tie.Need-enum-told
 enum-told c = search needs
 
 check-invoke-requires : tie.Need-check-invoke-requires
-check-invoke-requires c κs = opened-valid ((c .before .before .before .before .before .before .args .table) .now) (c .before .before .before .before .before .before .args .state) (verdict-passes (c .before .before .opening .result) (shared ((c .before .before .before .before .before .before .args .table) .now) (c .before .before .before .before .before .before .args .state)) (c .before .before .opening .ensures) (cc))
+check-invoke-requires c κs =
+    let opening = c .before .before in
+    let start = opening .before .before .before .before in
+    opened-valid (start .args .table .now) (start .args .state)
+    (verdict-passes (opening .opening .result) (shared (start .args .table .now) (start .args .state)) (opening .opening .ensures) (cc))
 
 enum-known-why-2 : tie.Need-enum-known-why-2
 enum-known-why-2 c = search needs
@@ -39,7 +49,17 @@ refused-requires-2 : tie.Need-refused-requires-2
 refused-requires-2 c κs = search needs
 
 returns-2 : tie.Need-returns-2
-returns-2 c = later-refused ((c .before .before .before .before .before .before .before .before .before .before .before .args .table) .now) (c .before .before .before .before .before .before .before .before .before .before .before .args .state) (invoke ((c .before .before .before .before .before .before .before .before .before .before .before .args .id) .0) (c .before .before .before .before .before .before .before .before .before .before .before .args .code) (readPeerLink (c .before .before .before .before .before .before .before .before .before .before .before .args .linked)) ((c .before .before .before .before .before .before .before .before .before .before .before .args .value) .now) (length ((c .before .before .before .before .before .before .before .before .before .before .before .args .out) .now))) (c .before .before .before .before .before .before .before .opening .result) (c .before .before .before .before .before .before .before .opening .ensures) (cc) (c .before .before .why2 .given .0 .0) (verdict-fails (c .before .before .before .before .check-invoke .result) (laterChecks ((c .before .before .before .before .before .before .before .before .before .before .before .args .table) .now) (c .before .before .before .before .before .before .before .before .before .before .before .args .state) (invoke ((c .before .before .before .before .before .before .before .before .before .before .before .args .id) .0) (c .before .before .before .before .before .before .before .before .before .before .before .args .code) (readPeerLink (c .before .before .before .before .before .before .before .before .before .before .before .args .linked)) ((c .before .before .before .before .before .before .before .before .before .before .before .args .value) .now) (length ((c .before .before .before .before .before .before .before .before .before .before .before .args .out) .now)))) (c .before .before .why2 .given .0 .0) (c .before .before .before .before .check-invoke .ensures) (cc)) (invoke-plain ((c .before .before .before .before .before .before .before .before .before .before .before .args .table) .now) (c .before .before .before .before .before .before .before .before .before .before .before .args .state) ((c .before .before .before .before .before .before .before .before .before .before .before .args .id) .0) ((c .before .before .before .before .before .before .before .before .before .before .before .args .value) .now) (length ((c .before .before .before .before .before .before .before .before .before .before .before .args .out) .now)) (c .before .before .before .before .before .before .before .before .before .before .before .args .code) (readPeerLink (c .before .before .before .before .before .before .before .before .before .before .before .args .linked))) ((c .before .before .before .before .before .before .before .before .before .before .before .args .out) .now) _ (c .refused2 .ensures)
+returns-2 c =
+    let why2 = c .before .before in
+    let check-invoke = why2 .before .before in
+    let opening = check-invoke .before .before .before in
+    let start = opening .before .before .before .before in
+    later-refused (start .args .table .now) (start .args .state)
+    (invoke (start .args .id .0) (start .args .code) (readPeerLink (start .args .linked)) (start .args .value .now) (length (start .args .out .now)))
+    (opening .opening .result) (opening .opening .ensures) (cc) (why2 .why2 .given .0 .0)
+    (verdict-fails (check-invoke .check-invoke .result) (laterChecks (start .args .table .now) (start .args .state) (invoke (start .args .id .0) (start .args .code) (readPeerLink (start .args .linked)) (start .args .value .now) (length (start .args .out .now)))) (why2 .why2 .given .0 .0) (check-invoke .check-invoke .ensures) (cc))
+    (invoke-plain (start .args .table .now) (start .args .state) (start .args .id .0) (start .args .value .now) (length (start .args .out .now)) (start .args .code) (readPeerLink (start .args .linked)))
+    (start .args .out .now) _ (c .refused2 .ensures)
 
 enum-told-2 : tie.Need-enum-told-2
 enum-told-2 c = search needs
@@ -50,8 +70,16 @@ link-number-requires c κs = search needs
 write-invoke-requires : tie.Need-write-invoke-requires
 write-invoke-requires c κs = search needs
 
+opened : (a : tie.After-enum-told) → a .before .before .opening .result ≡ Passes
+opened a = cc
+
 with-own-requires : tie.Need-with-own-requires
-with-own-requires c κs = opened-valid ((c .before .before .before .before .before .before .before .before .before .before .before .before .before .before .args .table) .now) (c .before .before .before .before .before .before .before .before .before .before .before .before .before .before .args .state) (verdict-passes (c .before .before .before .before .before .before .before .before .before .before .opening .result) (shared ((c .before .before .before .before .before .before .before .before .before .before .before .before .before .before .args .table) .now) (c .before .before .before .before .before .before .before .before .before .before .before .before .before .before .args .state)) (c .before .before .before .before .before .before .before .before .before .before .opening .ensures) (cc))
+with-own-requires c κs =
+    let told = c .before .before .before .before .before .before .before .before in
+    let opening = told .before .before in
+    let start = opening .before .before .before .before in
+    opened-valid (start .args .table .now) (start .args .state)
+    (verdict-passes (opening .opening .result) (shared (start .args .table .now) (start .args .state)) (opening .opening .ensures) (opened told))
 
 accepted-requires : tie.Need-accepted-requires
 accepted-requires c κs = search needs
@@ -59,14 +87,24 @@ accepted-requires c κs = search needs
 same-length : tie.Need-same-length
 same-length c = search needs
 
-opened : (a : tie.After-enum-told) → a .before .before .opening .result ≡ Passes
-opened a = cc
-
 checked : (a : tie.After-enum-told2) → a .before .before .check-invoke .result ≡ Passes
 checked a = cc
 
 returns-3 : tie.Need-returns-3
-returns-3 c = invoke-accepted ((c .before .before .before .before .before .before .before .before .before .before .before .before .before .before .before .before .args .table) .now) (c .before .before .before .before .before .before .before .before .before .before .before .before .before .before .before .before .args .state) (c .before .before .before .before .before .before .before .before .before .before .before .before .opening .result) (c .before .before .before .before .before .before .before .before .before .before .before .before .opening .ensures) (opened (c .before .before .before .before .before .before .before .before .before .before)) ((c .before .before .before .before .before .before .before .before .before .before .before .before .before .before .before .before .args .out) .now) _ _ (c .before .with-own .result) _ (c .accepted .ensures) ((c .before .before .before .before .before .before .before .before .before .before .before .before .before .before .before .before .args .id) .0) ((c .before .before .before .before .before .before .before .before .before .before .before .before .before .before .before .before .args .value) .now) (c .before .before .before .before .before .before .before .before .before .before .before .before .before .before .before .before .args .code) (readPeerLink (c .before .before .before .before .before .before .before .before .before .before .before .before .before .before .before .before .args .linked)) (verdict-passes (c .before .before .before .before .before .before .before .before .before .check-invoke .result) (laterChecks ((c .before .before .before .before .before .before .before .before .before .before .before .before .before .before .before .before .args .table) .now) (c .before .before .before .before .before .before .before .before .before .before .before .before .before .before .before .before .args .state) (invoke ((c .before .before .before .before .before .before .before .before .before .before .before .before .before .before .before .before .args .id) .0) (c .before .before .before .before .before .before .before .before .before .before .before .before .before .before .before .before .args .code) (readPeerLink (c .before .before .before .before .before .before .before .before .before .before .before .before .before .before .before .before .args .linked)) ((c .before .before .before .before .before .before .before .before .before .before .before .before .before .before .before .before .args .value) .now) (length ((c .before .before .before .before .before .before .before .before .before .before .before .before .before .before .before .before .args .out) .now)))) (c .before .before .before .before .before .before .before .before .before .check-invoke .ensures) (checked (c .before .before .before .before .before .before .before))) (c .before .before .before .before .before .link-number .result) (c .before .before .before .before .before .link-number .ensures) (c .before .with-own .ensures) (c .before .before .before .before .write-invoke .ensures)
+returns-3 c =
+    let with-own = c .before in
+    let write-invoke = with-own .before .before .before in
+    let link-number = write-invoke .before in
+    let told2 = link-number .before .before in
+    let check-invoke = told2 .before .before in
+    let told = check-invoke .before in
+    let opening = told .before .before in
+    let start = opening .before .before .before .before in
+    invoke-accepted (start .args .table .now) (start .args .state) (opening .opening .result) (opening .opening .ensures) (opened told)
+    (start .args .out .now) _ _ (with-own .with-own .result) _ (c .accepted .ensures) (start .args .id .0) (start .args .value .now)
+    (start .args .code) (readPeerLink (start .args .linked))
+    (verdict-passes (check-invoke .check-invoke .result) (laterChecks (start .args .table .now) (start .args .state) (invoke (start .args .id .0) (start .args .code) (readPeerLink (start .args .linked)) (start .args .value .now) (length (start .args .out .now)))) (check-invoke .check-invoke .ensures) (checked told2))
+    (link-number .link-number .result) (link-number .link-number .ensures) (with-own .with-own .ensures) (write-invoke .write-invoke .ensures)
 
 pub invoke-spec : {M : Type 1} → statement M
 invoke-spec = tie.close (tie.spec opening-requires enum-known-why refused-requires returns enum-told check-invoke-requires enum-known-why-2 refused-requires-2 returns-2 enum-told-2 link-number-requires write-invoke-requires with-own-requires accepted-requires same-length returns-3)

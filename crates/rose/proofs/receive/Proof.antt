@@ -20,7 +20,13 @@ unheard-requires : tie.Need-unheard-requires
 unheard-requires c κs = search needs
 
 returns : tie.Need-returns
-returns c = opening-unheard ((c .before .before .before .before .before .before .before .before .args .table) .now) (c .before .before .before .before .before .before .before .before .args .state) (receive ((c .before .before .before .before .before .before .before .before .args .apdu) .now) (length ((c .before .before .before .before .before .before .before .before .args .out) .now))) (c .before .before .before .before .opening .result) (c .before .before .before .before .opening .ensures) (c .before .before .why .given .0 .0) (cc) ((c .before .before .before .before .before .before .before .before .args .apdu) .now) ((c .before .before .before .before .before .before .before .before .args .out) .now) _ (c .unheard .ensures)
+returns c =
+    let why = c .before .before in
+    let opening = why .before .before in
+    let start = opening .before .before .before .before in
+    opening-unheard (start .args .table .now) (start .args .state) (receive (start .args .apdu .now) (length (start .args .out .now)))
+    (opening .opening .result) (opening .opening .ensures) (why .why .given .0 .0) (cc) (start .args .apdu .now) (start .args .out .now) _
+    (c .unheard .ensures)
 
 enum-told : tie.Need-enum-told
 enum-told c = search needs
@@ -29,16 +35,30 @@ unheard-requires-2 : tie.Need-unheard-requires-2
 unheard-requires-2 c κs = search needs
 
 returns-2 : tie.Need-returns-2
-returns-2 c = too-long ((c .before .before .before .before .before .before .before .before .args .table) .now) (c .before .before .before .before .before .before .before .before .args .state) ((c .before .before .before .before .before .before .before .before .args .apdu) .now) ((c .before .before .before .before .before .before .before .before .args .out) .now) (c .before .before .before .before .opening .result) (c .before .before .before .before .opening .ensures) (cc) (c .before .if1 .taken) _ (c .unheard2 .ensures)
+returns-2 c =
+    let if1 = c .before in
+    let opening = if1 .before .before .before in
+    let start = opening .before .before .before .before in
+    too-long (start .args .table .now) (start .args .state) (start .args .apdu .now) (start .args .out .now) (opening .opening .result)
+    (opening .opening .ensures) (cc) (if1 .if1 .taken) _ (c .unheard2 .ensures)
 
 unheard-requires-3 : tie.Need-unheard-requires-3
 unheard-requires-3 c κs = search needs
 
 returns-3 : tie.Need-returns-3
-returns-3 c = no-room ((c .before .before .before .before .before .before .before .before .before .args .table) .now) (c .before .before .before .before .before .before .before .before .before .args .state) ((c .before .before .before .before .before .before .before .before .before .args .apdu) .now) ((c .before .before .before .before .before .before .before .before .before .args .out) .now) (c .before .before .before .before .before .opening .result) (c .before .before .before .before .before .opening .ensures) (cc) (omega arith) (c .before .if2 .taken) _ (c .unheard3 .ensures)
+returns-3 c =
+    let if2 = c .before in
+    let opening = if2 .before .before .before .before in
+    let start = opening .before .before .before .before in
+    no-room (start .args .table .now) (start .args .state) (start .args .apdu .now) (start .args .out .now) (opening .opening .result)
+    (opening .opening .ensures) (cc) (omega arith) (if2 .if2 .taken) _ (c .unheard3 .ensures)
 
 arrive-requires : tie.Need-arrive-requires
-arrive-requires c κs = opened-valid ((c .before .before .before .before .before .before .before .before .args .table) .now) (c .before .before .before .before .before .before .before .before .args .state) (verdict-passes (c .before .before .before .before .opening .result) (shared ((c .before .before .before .before .before .before .before .before .args .table) .now) (c .before .before .before .before .before .before .before .before .args .state)) (c .before .before .before .before .opening .ensures) (cc))
+arrive-requires c κs =
+    let opening = c .before .before .before .before in
+    let start = opening .before .before .before .before in
+    opened-valid (start .args .table .now) (start .args .state)
+    (verdict-passes (opening .opening .result) (shared (start .args .table .now) (start .args .state)) (opening .opening .ensures) (cc))
 
 write-answer-requires : tie.Need-write-answer-requires
 write-answer-requires c κs = search needs
@@ -47,7 +67,14 @@ same-length : tie.Need-same-length
 same-length c = search needs
 
 returns-4 : tie.Need-returns-4
-returns-4 c = received ((c .before .before .before .before .before .before .before .before .before .before .before .before .before .before .args .table) .now) (c .before .before .before .before .before .before .before .before .before .before .before .before .before .before .args .state) ((c .before .before .before .before .before .before .before .before .before .before .before .before .before .before .args .apdu) .now) ((c .before .before .before .before .before .before .before .before .before .before .before .before .before .before .args .out) .now) (c .before .before .before .before .before .before .before .before .before .before .opening .result) (c .before .before .before .before .before .before .before .before .before .before .opening .ensures) (cc) (omega arith) (omega arith) (c .before .before .before .before .before .arrive .result) (c .before .before .before .before .before .arrive .ensures) _ _ (c .before .before .write-answer .ensures)
+returns-4 c =
+    let write-answer = c .before .before in
+    let arrive = write-answer .before .before .before in
+    let opening = arrive .before .before .before .before .before in
+    let start = opening .before .before .before .before in
+    received (start .args .table .now) (start .args .state) (start .args .apdu .now) (start .args .out .now) (opening .opening .result)
+    (opening .opening .ensures) (cc) (omega arith) (omega arith) (arrive .arrive .result) (arrive .arrive .ensures) _ _
+    (write-answer .write-answer .ensures)
 
 pub receive-spec : {M : Type 1} → statement M
 receive-spec = tie.close (tie.spec opening-requires enum-known-why unheard-requires returns enum-told unheard-requires-2 returns-2 unheard-requires-3 returns-3 arrive-requires write-answer-requires same-length returns-4)

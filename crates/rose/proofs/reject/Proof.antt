@@ -20,7 +20,13 @@ refused-requires : tie.Need-refused-requires
 refused-requires c κs = search needs
 
 returns : tie.Need-returns
-returns c = opening-refused ((c .before .before .before .before .before .before .before .args .table) .now) (c .before .before .before .before .before .before .before .args .state) (reject ((c .before .before .before .before .before .before .before .args .id) .0) (c .before .before .before .before .before .before .before .args .problem) (length ((c .before .before .before .before .before .before .before .args .out) .now))) (c .before .before .before .before .opening .result) (c .before .before .before .before .opening .ensures) (c .before .before .why .given .0 .0) (cc) ((c .before .before .before .before .before .before .before .args .out) .now) _ (c .refused .ensures)
+returns c =
+    let why = c .before .before in
+    let opening = why .before .before in
+    let start = opening .before .before .before in
+    opening-refused (start .args .table .now) (start .args .state)
+    (reject (start .args .id .0) (start .args .problem) (length (start .args .out .now))) (opening .opening .result) (opening .opening .ensures)
+    (why .why .given .0 .0) (cc) (start .args .out .now) _ (c .refused .ensures)
 
 enum-told : tie.Need-enum-told
 enum-told c = search needs
@@ -35,7 +41,16 @@ refused-requires-2 : tie.Need-refused-requires-2
 refused-requires-2 c κs = search needs
 
 returns-2 : tie.Need-returns-2
-returns-2 c = later-refused ((c .before .before .before .before .before .before .before .before .before .before .args .table) .now) (c .before .before .before .before .before .before .before .before .before .before .args .state) (reject ((c .before .before .before .before .before .before .before .before .before .before .args .id) .0) (c .before .before .before .before .before .before .before .before .before .before .args .problem) (length ((c .before .before .before .before .before .before .before .before .before .before .args .out) .now))) (c .before .before .before .before .before .before .before .opening .result) (c .before .before .before .before .before .before .before .opening .ensures) (cc) (c .before .before .why2 .given .0 .0) (verdict-fails (c .before .before .before .before .check-reject .result) (laterChecks ((c .before .before .before .before .before .before .before .before .before .before .args .table) .now) (c .before .before .before .before .before .before .before .before .before .before .args .state) (reject ((c .before .before .before .before .before .before .before .before .before .before .args .id) .0) (c .before .before .before .before .before .before .before .before .before .before .args .problem) (length ((c .before .before .before .before .before .before .before .before .before .before .args .out) .now)))) (c .before .before .why2 .given .0 .0) (c .before .before .before .before .check-reject .ensures) (cc)) (reject-plain ((c .before .before .before .before .before .before .before .before .before .before .args .table) .now) (c .before .before .before .before .before .before .before .before .before .before .args .state) ((c .before .before .before .before .before .before .before .before .before .before .args .id) .0) [] (length ((c .before .before .before .before .before .before .before .before .before .before .args .out) .now)) (c .before .before .before .before .before .before .before .before .before .before .args .problem)) ((c .before .before .before .before .before .before .before .before .before .before .args .out) .now) _ (c .refused2 .ensures)
+returns-2 c =
+    let why2 = c .before .before in
+    let check-reject = why2 .before .before in
+    let opening = check-reject .before .before .before in
+    let start = opening .before .before .before in
+    later-refused (start .args .table .now) (start .args .state) (reject (start .args .id .0) (start .args .problem) (length (start .args .out .now)))
+    (opening .opening .result) (opening .opening .ensures) (cc) (why2 .why2 .given .0 .0)
+    (verdict-fails (check-reject .check-reject .result) (laterChecks (start .args .table .now) (start .args .state) (reject (start .args .id .0) (start .args .problem) (length (start .args .out .now)))) (why2 .why2 .given .0 .0) (check-reject .check-reject .ensures) (cc))
+    (reject-plain (start .args .table .now) (start .args .state) (start .args .id .0) [] (length (start .args .out .now)) (start .args .problem))
+    (start .args .out .now) _ (c .refused2 .ensures)
 
 enum-told-2 : tie.Need-enum-told-2
 enum-told-2 c = search needs
@@ -53,7 +68,16 @@ same-length : tie.Need-same-length
 same-length c = search needs
 
 returns-3 : tie.Need-returns-3
-returns-3 c = reject-accepted ((c .before .before .before .before .before .before .before .before .before .before .before .before .before .before .args .table) .now) (c .before .before .before .before .before .before .before .before .before .before .before .before .before .before .args .state) (c .before .before .before .before .before .before .before .before .before .before .before .opening .result) (c .before .before .before .before .before .before .before .before .before .before .before .opening .ensures) (cc) ((c .before .before .before .before .before .before .before .before .before .before .before .before .before .before .args .out) .now) _ _ (c .before .retire-peer .result) _ (c .accepted .ensures) ((c .before .before .before .before .before .before .before .before .before .before .before .before .before .before .args .id) .0) (c .before .before .before .before .before .before .before .before .before .before .before .before .before .before .args .problem) (verdict-passes (c .before .before .before .before .before .before .before .before .check-reject .result) (laterChecks ((c .before .before .before .before .before .before .before .before .before .before .before .before .before .before .args .table) .now) (c .before .before .before .before .before .before .before .before .before .before .before .before .before .before .args .state) (reject ((c .before .before .before .before .before .before .before .before .before .before .before .before .before .before .args .id) .0) (c .before .before .before .before .before .before .before .before .before .before .before .before .before .before .args .problem) (length ((c .before .before .before .before .before .before .before .before .before .before .before .before .before .before .args .out) .now)))) (c .before .before .before .before .before .before .before .before .check-reject .ensures) (cc)) (c .before .retire-peer .ensures) (c .before .before .before .before .write-reject .ensures)
+returns-3 c =
+    let retire-peer = c .before in
+    let write-reject = retire-peer .before .before .before in
+    let check-reject = write-reject .before .before .before .before in
+    let opening = check-reject .before .before .before in
+    let start = opening .before .before .before in
+    reject-accepted (start .args .table .now) (start .args .state) (opening .opening .result) (opening .opening .ensures) (cc) (start .args .out .now)
+    _ _ (retire-peer .retire-peer .result) _ (c .accepted .ensures) (start .args .id .0) (start .args .problem)
+    (verdict-passes (check-reject .check-reject .result) (laterChecks (start .args .table .now) (start .args .state) (reject (start .args .id .0) (start .args .problem) (length (start .args .out .now)))) (check-reject .check-reject .ensures) (cc))
+    (retire-peer .retire-peer .ensures) (write-reject .write-reject .ensures)
 
 pub reject-spec : {M : Type 1} → statement M
 reject-spec = tie.close (tie.spec opening-requires enum-known-why refused-requires returns enum-told check-reject-requires enum-known-why-2 refused-requires-2 returns-2 enum-told-2 write-reject-requires retire-peer-requires accepted-requires same-length returns-3)

@@ -1,5 +1,7 @@
 -- 19 and 1, the checks of its own, or the APDU and the new state.
+use mathlib.Core.Path.{_≡_}
 use lib.ListN.{length}
+use Rattle.rose.specs.declared.Verdict.the-variants.{Passes}
 use Rattle.protocol.specs.Call.{result}
 use Rattle.protocol.specs.Perform.{laterChecks}
 use Rattle.rose.proofs.Verdicts.{verdict-fails, verdict-passes}
@@ -21,13 +23,23 @@ refused-requires : tie.Need-refused-requires
 refused-requires c κs = search needs
 
 returns : tie.Need-returns
-returns c = opening-refused ((c .before .before .before .before .before .before .before .before .args .table) .now) (c .before .before .before .before .before .before .before .before .args .state) (result ((c .before .before .before .before .before .before .before .before .args .id) .0) ((c .before .before .before .before .before .before .before .before .args .value) .now) (length ((c .before .before .before .before .before .before .before .before .args .out) .now))) (c .before .before .before .before .opening .result) (c .before .before .before .before .opening .ensures) (c .before .before .why .given .0 .0) (cc) ((c .before .before .before .before .before .before .before .before .args .out) .now) _ (c .refused .ensures)
+returns c =
+    let why = c .before .before in
+    let opening = why .before .before in
+    let start = opening .before .before .before .before in
+    opening-refused (start .args .table .now) (start .args .state)
+    (result (start .args .id .0) (start .args .value .now) (length (start .args .out .now))) (opening .opening .result) (opening .opening .ensures)
+    (why .why .given .0 .0) (cc) (start .args .out .now) _ (c .refused .ensures)
 
 enum-told : tie.Need-enum-told
 enum-told c = search needs
 
 check-result-requires : tie.Need-check-result-requires
-check-result-requires c κs = opened-valid ((c .before .before .before .before .before .before .args .table) .now) (c .before .before .before .before .before .before .args .state) (verdict-passes (c .before .before .opening .result) (shared ((c .before .before .before .before .before .before .args .table) .now) (c .before .before .before .before .before .before .args .state)) (c .before .before .opening .ensures) (cc))
+check-result-requires c κs =
+    let opening = c .before .before in
+    let start = opening .before .before .before .before in
+    opened-valid (start .args .table .now) (start .args .state)
+    (verdict-passes (opening .opening .result) (shared (start .args .table .now) (start .args .state)) (opening .opening .ensures) (cc))
 
 enum-known-why-2 : tie.Need-enum-known-why-2
 enum-known-why-2 c = search needs
@@ -36,7 +48,17 @@ refused-requires-2 : tie.Need-refused-requires-2
 refused-requires-2 c κs = search needs
 
 returns-2 : tie.Need-returns-2
-returns-2 c = later-refused ((c .before .before .before .before .before .before .before .before .before .before .before .args .table) .now) (c .before .before .before .before .before .before .before .before .before .before .before .args .state) (result ((c .before .before .before .before .before .before .before .before .before .before .before .args .id) .0) ((c .before .before .before .before .before .before .before .before .before .before .before .args .value) .now) (length ((c .before .before .before .before .before .before .before .before .before .before .before .args .out) .now))) (c .before .before .before .before .before .before .before .opening .result) (c .before .before .before .before .before .before .before .opening .ensures) (cc) (c .before .before .why2 .given .0 .0) (verdict-fails (c .before .before .before .before .check-result .result) (laterChecks ((c .before .before .before .before .before .before .before .before .before .before .before .args .table) .now) (c .before .before .before .before .before .before .before .before .before .before .before .args .state) (result ((c .before .before .before .before .before .before .before .before .before .before .before .args .id) .0) ((c .before .before .before .before .before .before .before .before .before .before .before .args .value) .now) (length ((c .before .before .before .before .before .before .before .before .before .before .before .args .out) .now)))) (c .before .before .why2 .given .0 .0) (c .before .before .before .before .check-result .ensures) (cc)) (result-plain ((c .before .before .before .before .before .before .before .before .before .before .before .args .table) .now) (c .before .before .before .before .before .before .before .before .before .before .before .args .state) ((c .before .before .before .before .before .before .before .before .before .before .before .args .id) .0) ((c .before .before .before .before .before .before .before .before .before .before .before .args .value) .now) (length ((c .before .before .before .before .before .before .before .before .before .before .before .args .out) .now))) ((c .before .before .before .before .before .before .before .before .before .before .before .args .out) .now) _ (c .refused2 .ensures)
+returns-2 c =
+    let why2 = c .before .before in
+    let check-result = why2 .before .before in
+    let opening = check-result .before .before .before in
+    let start = opening .before .before .before .before in
+    later-refused (start .args .table .now) (start .args .state)
+    (result (start .args .id .0) (start .args .value .now) (length (start .args .out .now))) (opening .opening .result) (opening .opening .ensures)
+    (cc) (why2 .why2 .given .0 .0)
+    (verdict-fails (check-result .check-result .result) (laterChecks (start .args .table .now) (start .args .state) (result (start .args .id .0) (start .args .value .now) (length (start .args .out .now)))) (why2 .why2 .given .0 .0) (check-result .check-result .ensures) (cc))
+    (result-plain (start .args .table .now) (start .args .state) (start .args .id .0) (start .args .value .now) (length (start .args .out .now)))
+    (start .args .out .now) _ (c .refused2 .ensures)
 
 enum-told-2 : tie.Need-enum-told-2
 enum-told-2 c = search needs
@@ -56,8 +78,26 @@ accepted-requires c κs = search needs
 same-length : tie.Need-same-length
 same-length c = search needs
 
+opened : (a : tie.After-enum-told) → a .before .before .opening .result ≡ Passes
+opened a = cc
+
+checked : (a : tie.After-enum-told2) → a .before .before .check-result .result ≡ Passes
+checked a = cc
+
 returns-3 : tie.Need-returns-3
-returns-3 c = result-accepted ((c .before .before .before .before .before .before .before .before .before .before .before .before .before .before .before .before .args .table) .now) (c .before .before .before .before .before .before .before .before .before .before .before .before .before .before .before .before .args .state) (c .before .before .before .before .before .before .before .before .before .before .before .before .opening .result) (c .before .before .before .before .before .before .before .before .before .before .before .before .opening .ensures) (cc) ((c .before .before .before .before .before .before .before .before .before .before .before .before .before .before .before .before .args .out) .now) _ _ (c .before .retire-peer .result) _ (c .accepted .ensures) ((c .before .before .before .before .before .before .before .before .before .before .before .before .before .before .before .before .args .id) .0) ((c .before .before .before .before .before .before .before .before .before .before .before .before .before .before .before .before .args .value) .now) (verdict-passes (c .before .before .before .before .before .before .before .before .before .check-result .result) (laterChecks ((c .before .before .before .before .before .before .before .before .before .before .before .before .before .before .before .before .args .table) .now) (c .before .before .before .before .before .before .before .before .before .before .before .before .before .before .before .before .args .state) (result ((c .before .before .before .before .before .before .before .before .before .before .before .before .before .before .before .before .args .id) .0) ((c .before .before .before .before .before .before .before .before .before .before .before .before .before .before .before .before .args .value) .now) (length ((c .before .before .before .before .before .before .before .before .before .before .before .before .before .before .before .before .args .out) .now)))) (c .before .before .before .before .before .before .before .before .before .check-result .ensures) (cc)) (c .before .before .before .before .before .peer-code .result) (c .before .before .before .before .before .peer-code .ensures) (c .before .retire-peer .ensures) (c .before .before .before .before .write-result .ensures)
+returns-3 c =
+    let retire-peer = c .before in
+    let write-result = retire-peer .before .before .before in
+    let peer-code = write-result .before in
+    let told2 = peer-code .before .before in
+    let check-result = told2 .before .before in
+    let told = check-result .before in
+    let opening = told .before .before in
+    let start = opening .before .before .before .before in
+    result-accepted (start .args .table .now) (start .args .state) (opening .opening .result) (opening .opening .ensures) (opened told) (start .args .out .now)
+    _ _ (retire-peer .retire-peer .result) _ (c .accepted .ensures) (start .args .id .0) (start .args .value .now)
+    (verdict-passes (check-result .check-result .result) (laterChecks (start .args .table .now) (start .args .state) (result (start .args .id .0) (start .args .value .now) (length (start .args .out .now)))) (check-result .check-result .ensures) (checked told2))
+    (peer-code .peer-code .result) (peer-code .peer-code .ensures) (retire-peer .retire-peer .ensures) (write-result .write-result .ensures)
 
 pub result-spec : {M : Type 1} → statement M
 result-spec = tie.close (tie.spec opening-requires enum-known-why refused-requires returns enum-told check-result-requires enum-known-why-2 refused-requires-2 returns-2 enum-told-2 peer-code-requires write-result-requires retire-peer-requires accepted-requires same-length returns-3)

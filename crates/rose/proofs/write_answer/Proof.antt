@@ -14,7 +14,11 @@ enum-known-why : tie.Need-enum-known-why
 enum-known-why c = search needs
 
 returns : tie.Need-returns
-returns c = refused-silent (c .before .before .before .before .before .args .reception) ((c .before .before .before .before .before .args .out) .now) (c .before .before .reception .given .0 .0) (cc) (no-reject (c .before .before .reception .given .0 .0) (c .match2 .keys2))
+returns c =
+    let reception = c .before .before in
+    let start = reception .before .before .before in
+    refused-silent (start .args .reception) (start .args .out .now) (reception .reception .given .0 .0) (cc)
+    (no-reject (reception .reception .given .0 .0) (c .match2 .keys2))
 
 write-reject-requires : tie.Need-write-reject-requires
 write-reject-requires c κs = search needs
@@ -26,7 +30,12 @@ same-length : tie.Need-same-length
 same-length c = search needs
 
 returns-3 : tie.Need-returns-3
-returns-3 c = reject-written (c .before .before .before .before .before .before .before .before .before .before .before .args .reception) ((c .before .before .before .before .before .before .before .before .before .before .before .args .out) .now) (c .before .before .before .before .before .why .given .0 .0) (c .before .before .before .before .before .why .given .0 .1 .0) (c .before .before .before .before .before .why .given .0 .1 .1 .0) (cc) _ _ (c .before .before .write-reject .ensures)
+returns-3 c =
+    let write-reject = c .before .before in
+    let why = write-reject .before .before .before in
+    let start = why .before .before .before .before .before .before in
+    reject-written (start .args .reception) (start .args .out .now) (why .why .given .0 .0) (why .why .given .0 .1 .0) (why .why .given .0 .1 .1 .0)
+    (cc) _ _ (write-reject .write-reject .ensures)
 
 pub write-answer-spec : {M : Type 1} → statement M
 write-answer-spec = tie.close (tie.spec enum-told enum-known-reception enum-known-why returns write-reject-requires returns-2 same-length returns-3)

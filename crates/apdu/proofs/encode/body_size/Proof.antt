@@ -26,9 +26,14 @@ element-size-requires c κs = omega (arith, count-within (c .before .before .bef
 
 returns-2 : tie.Need-returns-2
 returns-2 c =
-    let a = c .before .before .before .before .args in
-    let n = c .before .integer-octets .result + 2 + length (a .value .now) in
-    (c .element-size .ensures .0 ∙ body-size (a .code) (a .value .now) n (omega arith) (omega (arith, integer-size 0x02 (a .code .0))), omega (arith, count-within (a .code .0)))
+    let integer-octets = c .before in
+    let start = integer-octets .before .before .before in
+    let a = start .args in
+    let n = integer-octets .integer-octets .result + 2 + length (a .value .now) in (
+      c .element-size .ensures .0 ∙ body-size (a .code) (a .value .now) n (omega arith) (omega (arith, integer-size 0x02 (a .code .0))),
+      omega
+          (arith, count-within (a .code .0)),
+    )
 
 pub body-size-spec : {M : Type 1} → statement M
 body-size-spec =

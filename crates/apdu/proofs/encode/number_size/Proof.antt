@@ -29,8 +29,10 @@ returns c = let a = c .before .before .args in (when-is (numberSize (a .absent))
 returns-2 : tie.Need-returns-2
 unfolding numberSize
 returns-2 c =
-    let w = c .before .before .n .given .0 .0 in
-    let a = c .before .before .before .before .args in
+    let n = c .before .before in
+    let start = n .before .before in
+    let w = n .n .given .0 .0 in
+    let a = start .args in
     (ap (λ (k : ℕ). k + 2) (c .integer-octets .ensures) ∙ when-is (numberSize (a .absent)) (a .n) (Of w) (cc), omega (arith, count-within w))
 
 pub number-size-spec : {M : Type 1} → statement M

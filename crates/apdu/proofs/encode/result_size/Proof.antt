@@ -25,8 +25,11 @@ element-size-requires c κs = omega (arith, count-within (c .before .before .bef
 
 returns : tie.Need-returns
 returns c =
-    let a = c .before .before .before .before .args in
-    let n = c .before .before .integer-octets .result + 2 + c .before .body-size .result in
+    let body-size = c .before in
+    let integer-octets = body-size .before in
+    let start = integer-octets .before .before in
+    let a = start .args in
+    let n = integer-octets .integer-octets .result + 2 + body-size .body-size .result in
     c .element-size .ensures .0 ∙ result-size (a .id) (a .code) (a .value .now) n (omega arith)
 
 pub result-size-spec : {M : Type 1} → statement M

@@ -27,14 +27,18 @@ cast-store-header c = omega (arith, count-within (c .before .before .before .bef
 
 store-header-requires : tie.Need-store-header-requires
 store-header-requires c κs =
-    let a = c .before .before .before .before .before .args in
-    let n = c .before .integer-octets .result + 2 + length (a .value .now) in
+    let integer-octets = c .before in
+    let start = integer-octets .before .before .before .before in
+    let a = start .args in
+    let n = integer-octets .integer-octets .result + 2 + length (a .value .now) in
     omega (arith, body-size (a .code) (a .value .now) n (omega arith) (omega (arith, integer-size 0x02 (a .code .0))))
 
 store-integer-requires : tie.Need-store-integer-requires
 store-integer-requires c κs =
-    let a = c .before .before .before .before .before .before .before .before .before .args in
-    let n = c .before .before .before .before .before .integer-octets .result + 2 + length (a .value .now) in
+    let integer-octets = c .before .before .before .before .before in
+    let start = integer-octets .before .before .before .before in
+    let a = start .args in
+    let n = integer-octets .integer-octets .result + 2 + length (a .value .now) in
     omega (arith, body-size (a .code) (a .value .now) n (omega arith) (omega (arith, integer-size 0x02 (a .code .0))), integer-size 0x02 (a .code .0))
 
 put-octets-requires : tie.Need-put-octets-requires
@@ -45,12 +49,18 @@ same-length c = search needs
 
 returns-2 : tie.Need-returns-2
 returns-2 c =
-    let a = c .before .before .before .before .before .before .before .before .before .before .before .before .before .before .before .before .args in
-    let n = c .before .before .before .before .before .before .before .before .before .before .before .before .integer-octets .result + 2 + length (a .value .now) in
+    let put-octets = c .before .before in
+    let store-integer = put-octets .before .before .before .before in
+    let store-header = store-integer .before .before .before .before in
+    let integer-octets = store-header .before .before in
+    let start = integer-octets .before .before .before .before in
+    let a = start .args in
+    let n = integer-octets .integer-octets .result + 2 + length (a .value .now) in
     let i = integer-size 0x02 (a .code .0) in
     stored-as (body-by (a .code) (a .value .now) n (omega (arith, i)) (omega arith))
-    (stored-stored (c .before .before .before .before .before .before .before .before .before .before .store-header .ensures)
-    (then-put (c .before .before .before .before .before .before .store-integer .ensures) (c .before .before .put-octets .ensures) (omega (arith, i, body-size (a .code) (a .value .now) n (omega arith) (omega (arith, i))))))
+    (stored-stored (store-header .store-header .ensures)
+    (then-put (store-integer .store-integer .ensures) (put-octets .put-octets .ensures)
+    (omega (arith, i, body-size (a .code) (a .value .now) n (omega arith) (omega (arith, i))))))
 
 pub store-body-spec : {M : Type 1} → statement M
 store-body-spec =

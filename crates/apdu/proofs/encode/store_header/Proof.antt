@@ -15,7 +15,10 @@ same-length : tie.Need-same-length
 same-length c = search needs
 
 returns : tie.Need-returns
-returns c = then-put (stored-by (c .before .before .before .before .before .before .put-octet .ensures) (omega arith)) (c .before .before .put-length .ensures) (omega arith)
+returns c =
+    let put-length = c .before .before in
+    let put-octet = put-length .before .before .before .before in
+    then-put (stored-by (put-octet .put-octet .ensures) (omega arith)) (put-length .put-length .ensures) (omega arith)
 
 pub store-header-spec : {M : Type 1} → statement M
 store-header-spec = tie.close (tie.spec put-octet-requires put-length-requires same-length returns)

@@ -24,10 +24,15 @@ same-length c = search needs
 
 returns : tie.Need-returns
 returns c =
-    let a = c .before .before .before .before .before .before .before .before .before .before .args in
-    let n = c .before .before .before .before .before .before .before .integer-octets in
+    let put-integer = c .before .before in
+    let store-header = put-integer .before .before .before .before in
+    let integer-octets = store-header .before in
+    let start = integer-octets .before .before .before in
+    let a = start .args in
+    let n = integer-octets .integer-octets in
     stored-as (integer-by (a .identifier) (a .w) (n .result) (n .ensures))
-    (then-put (c .before .before .before .before .before .before .store-header .ensures) (c .before .before .put-integer .ensures) (omega (arith, integer-parts (a .identifier) (a .w) (n .result) (n .ensures))))
+    (then-put (store-header .store-header .ensures) (put-integer .put-integer .ensures)
+    (omega (arith, integer-parts (a .identifier) (a .w) (n .result) (n .ensures))))
 
 pub store-integer-spec : {M : Type 1} → statement M
 store-integer-spec =

@@ -19,7 +19,10 @@ enum-known-linked c = search needs
 
 store-integer-requires : tie.Need-store-integer-requires
 unfolding linkedField
-store-integer-requires c κs = omega (arith, ap length (when-is linkedField (c .before .before .before .before .before .args .linked) (Of (c .before .before .linked .given .0 .0)) (cc)))
+store-integer-requires c κs =
+    let linked = c .before .before in
+    let start = linked .before .before .before in
+    omega (arith, ap length (when-is linkedField (start .args .linked) (Of (linked .linked .given .0 .0)) (cc)))
 
 returns : tie.Need-returns
 unfolding linkedField
@@ -30,7 +33,11 @@ same-length c = search needs
 
 returns-2 : tie.Need-returns-2
 unfolding linkedField
-returns-2 c = stored-as (when-is linkedField (c .before .before .before .before .before .before .before .before .args .linked) (Of (c .before .before .before .before .before .linked .given .0 .0)) (cc)) (c .before .before .store-integer .ensures)
+returns-2 c =
+    let store-integer = c .before .before in
+    let linked = store-integer .before .before .before in
+    let start = linked .before .before .before in
+    stored-as (when-is linkedField (start .args .linked) (Of (linked .linked .given .0 .0)) (cc)) (store-integer .store-integer .ensures)
 
 pub store-linked-spec : {M : Type 1} → statement M
 store-linked-spec =

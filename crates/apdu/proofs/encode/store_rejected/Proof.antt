@@ -22,7 +22,10 @@ enum-known-id c = search needs
 
 store-integer-requires : tie.Need-store-integer-requires
 unfolding rejectedField
-store-integer-requires c κs = omega (arith, ap length (when-is rejectedField (c .before .before .before .before .before .args .id) (Of (c .before .before .id .given .0 .0)) (cc)))
+store-integer-requires c κs =
+    let id = c .before .before in
+    let start = id .before .before .before in
+    omega (arith, ap length (when-is rejectedField (start .args .id) (Of (id .id .given .0 .0)) (cc)))
 
 same-length : tie.Need-same-length
 same-length c = search needs
@@ -35,7 +38,11 @@ same-length-2 c = search needs
 
 returns-2 : tie.Need-returns-2
 unfolding rejectedField
-returns-2 c = stored-as (when-is rejectedField (c .before .before .before .before .before .before .before .before .args .id) (Of (c .before .before .before .before .before .id .given .0 .0)) (cc)) (c .before .before .store-integer .ensures)
+returns-2 c =
+    let store-integer = c .before .before in
+    let id = store-integer .before .before .before in
+    let start = id .before .before .before in
+    stored-as (when-is rejectedField (start .args .id) (Of (id .id .given .0 .0)) (cc)) (store-integer .store-integer .ensures)
 
 pub store-rejected-spec : {M : Type 1} → statement M
 store-rejected-spec =

@@ -17,15 +17,21 @@ element-size-requires c κs = search needs
 
 returns : tie.Need-returns
 returns c =
-    let a = c .before .before .before .before .before .args in
-    let n = c .before .before .coded-size in
-    over-limit _ _ (omega (arith, element-size (a .first) (n .result) (codedFields (a .id) (a .linked) (a .code) (given (a .value .now))) (n .ensures .0)))
+    let coded-size = c .before .before in
+    let start = coded-size .before .before .before in
+    let a = start .args in
+    let n = coded-size .coded-size in
+    over-limit _ _
+    (omega (arith, element-size (a .first) (n .result) (codedFields (a .id) (a .linked) (a .code) (given (a .value .now))) (n .ensures .0)))
 
 returns-2 : tie.Need-returns-2
 returns-2 c =
-    let a = c .before .before .before .before .before .before .args in
-    let n = c .before .before .before .coded-size in
-    too-short _ _ (omega (arith, element-size (a .first) (n .result) (codedFields (a .id) (a .linked) (a .code) (given (a .value .now))) (n .ensures .0)))
+    let coded-size = c .before .before .before in
+    let start = coded-size .before .before .before in
+    let a = start .args in
+    let n = coded-size .coded-size in
+    too-short _ _
+    (omega (arith, element-size (a .first) (n .result) (codedFields (a .id) (a .linked) (a .code) (given (a .value .now))) (n .ensures .0)))
 
 cast-store-header : tie.Need-cast-store-header
 cast-store-header c = search needs
@@ -34,13 +40,19 @@ store-header-requires : tie.Need-store-header-requires
 store-header-requires c κs = search needs
 
 store-integer-requires : tie.Need-store-integer-requires
-store-integer-requires c κs = let a = c .before .before .before .before .before .before .before .before .before .before .before .args in omega (arith, coded-size (a .id) (a .linked) (a .code) (a .value .now))
+store-integer-requires c κs =
+    let start = c .before .before .before .before .before .before .before .before .before .before .before in
+    let a = start .args in omega (arith, coded-size (a .id) (a .linked) (a .code) (a .value .now))
 
 store-linked-requires : tie.Need-store-linked-requires
-store-linked-requires c κs = let a = c .before .before .before .before .before .before .before .before .before .before .before .before .before .before .before .args in omega (arith, coded-size (a .id) (a .linked) (a .code) (a .value .now))
+store-linked-requires c κs =
+    let start = c .before .before .before .before .before .before .before .before .before .before .before .before .before .before .before in
+    let a = start .args in omega (arith, coded-size (a .id) (a .linked) (a .code) (a .value .now))
 
 store-integer-requires-2 : tie.Need-store-integer-requires-2
-store-integer-requires-2 c κs = let a = c .before .before .before .before .before .before .before .before .before .before .before .before .before .before .before .before .before .before .before .args in omega (arith, coded-size (a .id) (a .linked) (a .code) (a .value .now))
+store-integer-requires-2 c κs =
+    let start = c .before .before .before .before .before .before .before .before .before .before .before .before .before .before .before .before .before .before .before in
+    let a = start .args in omega (arith, coded-size (a .id) (a .linked) (a .code) (a .value .now))
 
 put-octets-requires : tie.Need-put-octets-requires
 put-octets-requires c κs = search needs

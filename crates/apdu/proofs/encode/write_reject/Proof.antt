@@ -24,13 +24,22 @@ cast-store-header : tie.Need-cast-store-header
 cast-store-header c = search needs
 
 store-header-requires : tie.Need-store-header-requires
-store-header-requires c κs = omega (arith, reject-lengths (c .before .before .before .before .args .id) (c .before .before .number-size .result + 3) (omega arith))
+store-header-requires c κs =
+    let number-size = c .before .before in
+    let start = number-size .before .before in
+    omega (arith, reject-lengths (start .args .id) (number-size .number-size .result + 3) (omega arith))
 
 store-rejected-requires : tie.Need-store-rejected-requires
-store-rejected-requires c κs = omega (arith, reject-lengths (c .before .before .before .before .before .before .before .before .args .id) (c .before .before .before .before .before .before .number-size .result + 3) (omega arith))
+store-rejected-requires c κs =
+    let number-size = c .before .before .before .before .before .before in
+    let start = number-size .before .before in
+    omega (arith, reject-lengths (start .args .id) (number-size .number-size .result + 3) (omega arith))
 
 store-header-requires-2 : tie.Need-store-header-requires-2
-store-header-requires-2 c κs = omega (arith, reject-lengths (c .before .before .before .before .before .before .before .before .before .before .before .before .args .id) (c .before .before .before .before .before .before .before .before .before .before .number-size .result + 3) (omega arith))
+store-header-requires-2 c κs =
+    let number-size = c .before .before .before .before .before .before .before .before .before .before in
+    let start = number-size .before .before in
+    omega (arith, reject-lengths (start .args .id) (number-size .number-size .result + 3) (omega arith))
 
 put-octet-requires : tie.Need-put-octet-requires
 put-octet-requires c κs = search needs
@@ -40,13 +49,19 @@ same-length c = search needs
 
 returns-2 : tie.Need-returns-2
 returns-2 c =
-    let a = c .before .before .before .before .before .before .before .before .before .before .before .before .before .before .before .before .before .before .before .args in
-    let n = c .before .before .before .before .before .before .before .before .before .before .before .before .before .before .before .before .before .number-size .result + 3 in
+    let put-octet = c .before .before in
+    let store-header2 = put-octet .before .before .before .before in
+    let store-rejected = store-header2 .before .before .before .before in
+    let store-header = store-rejected .before .before .before .before in
+    let number-size = store-header .before .before .before in
+    let start = number-size .before .before in
+    let a = start .args in
+    let n = number-size .number-size .result + 3 in
     let e = reject-size (a .id) (a .kind) (a .problem) in
     written
     (stored-as (reject-by (a .id) n (omega arith) (a .kind) (a .problem))
-    (stored-stored (c .before .before .before .before .before .before .before .before .before .before .before .before .before .before .store-header .ensures) (stored-stored (c .before .before .before .before .before .before .before .before .before .before .store-rejected .ensures)
-    (then-put (c .before .before .before .before .before .before .store-header2 .ensures) (c .before .before .put-octet .ensures) (omega (arith, reject-lengths (a .id) n (omega arith)))))))
+    (stored-stored (store-header .store-header .ensures) (stored-stored (store-rejected .store-rejected .ensures)
+    (then-put (store-header2 .store-header2 .ensures) (put-octet .put-octet .ensures) (omega (arith, reject-lengths (a .id) n (omega arith)))))))
     (omega (arith, e, reject-most (a .id) (a .kind) (a .problem))) (omega (arith, e))
 
 pub write-reject-spec : {M : Type 1} → statement M

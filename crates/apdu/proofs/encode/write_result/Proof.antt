@@ -26,14 +26,20 @@ element-size-requires c κs = omega (arith, count-within (c .before .before .bef
 
 returns : tie.Need-returns
 returns c =
-    let a = c .before .before .before .before .before .before .args in
-    let n = c .before .before .before .integer-octets .result + 2 + c .before .before .body-size .result in
+    let body-size = c .before .before in
+    let integer-octets = body-size .before in
+    let start = integer-octets .before .before .before in
+    let a = start .args in
+    let n = integer-octets .integer-octets .result + 2 + body-size .body-size .result in
     over-limit _ _ (omega (arith, result-size (a .id) (a .code) (a .value .now) n (omega arith)))
 
 returns-2 : tie.Need-returns-2
 returns-2 c =
-    let a = c .before .before .before .before .before .before .before .args in
-    let n = c .before .before .before .before .integer-octets .result + 2 + c .before .before .before .body-size .result in
+    let body-size = c .before .before .before in
+    let integer-octets = body-size .before in
+    let start = integer-octets .before .before .before in
+    let a = start .args in
+    let n = integer-octets .integer-octets .result + 2 + body-size .body-size .result in
     too-short _ _ (omega (arith, result-size (a .id) (a .code) (a .value .now) n (omega arith)))
 
 cast-store-header : tie.Need-cast-store-header
@@ -43,11 +49,14 @@ store-header-requires : tie.Need-store-header-requires
 store-header-requires c κs = search needs
 
 store-integer-requires : tie.Need-store-integer-requires
-store-integer-requires c κs = omega (arith, integer-size 0x02 (c .before .before .before .before .before .before .before .before .before .before .before .before .args .id))
+store-integer-requires c κs =
+    let start = c .before .before .before .before .before .before .before .before .before .before .before .before in
+    omega (arith, integer-size 0x02 (start .args .id))
 
 store-body-requires : tie.Need-store-body-requires
 store-body-requires c κs =
-    let a = c .before .before .before .before .before .before .before .before .before .before .before .before .before .before .before .before .args in
+    let start = c .before .before .before .before .before .before .before .before .before .before .before .before .before .before .before .before in
+    let a = start .args in
     (omega (arith, integer-size 0x02 (a .id)), omega (arith, value-within (a .code) (a .value .now)))
 
 same-length : tie.Need-same-length

@@ -33,9 +33,15 @@ value-behind-requires c κs = search needs
 
 returns : tie.Need-returns
 returns c =
-    let g = c .before .before .before .before .before .before .before .id .given in
+    let code-of = c .before in
+    let number-under = code-of .before in
+    let between = number-under .before in
+    let id = between .before .before .before .before in
+    let field-at = id .before .before in
+    let g = id .id .given in
     c .value-behind .ensures
-    ∙ coded-behind _ _ _ _ (c .before .before .before .before .before .before .before .before .before .field-at .ensures) (g .0 .0) (g .0 .1 .0) (g .0 .1 .1 .0) (cc) (cc) _ _ _ (c .before .before .before .between .ensures) (c .before .before .number-under .ensures) (c .before .code-of .ensures)
+    ∙ coded-behind _ _ _ _ (field-at .field-at .ensures) (g .0 .0) (g .0 .1 .0) (g .0 .1 .1 .0) (cc) (cc) _ _ _ (between .between .ensures)
+    (number-under .number-under .ensures) (code-of .code-of .ensures)
 
 returns-2 : tie.Need-returns-2
 unfolding codedOf readCoded
@@ -44,8 +50,10 @@ returns-2 c = no-field _ _ _ _ (c .before .before .field-at .ensures) codedOf (c
 returns-3 : tie.Need-returns-3
 unfolding readCoded
 returns-3 c =
-    let g = c .before .before .before .id .given in
-    coded-not _ _ _ _ (c .before .before .before .before .before .field-at .ensures) (g .0 .0) (g .0 .1 .0) (g .0 .1 .1 .0) (cc) (cc)
+    let id = c .before .before .before in
+    let field-at = id .before .before in
+    let g = id .id .given in
+    coded-not _ _ _ _ (field-at .field-at .ensures) (g .0 .0) (g .0 .1 .0) (g .0 .1 .1 .0) (cc) (cc)
 
 pub code-and-value-spec : {M : Type 1} → statement M
 code-and-value-spec =

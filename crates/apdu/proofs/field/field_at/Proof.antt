@@ -23,15 +23,31 @@ enum-known-id c = search needs
 
 add-t10 : tie.Need-add-t10
 add-t10 c =
-    let g = c .before .id .given in
-    let a = c .before .before .before .before .before .before .args in
-    omega (arith, header-room (a .s .now) (a .at) (a .end) _ (c .before .before .before .header-of .ensures ∙ ap headerOf (c .before .before .before .before .between .ensures)) (g .0 .0) (g .0 .1 .0) (g .0 .1 .1 .0) (cc))
+    let id = c .before in
+    let header-of = id .before .before in
+    let between = header-of .before in
+    let start = between .before .before in
+    let g = id .id .given in
+    let a = start .args in
+    omega (
+      arith,
+      header-room (a .s .now) (a .at) (a .end) _ (header-of .header-of .ensures ∙ ap headerOf (between .between .ensures)) (g .0 .0)
+          (g .0 .1 .0) (g .0 .1 .1 .0) (cc),
+    )
 
 add-t11 : tie.Need-add-t11
 add-t11 c =
-    let g = c .before .id .given in
-    let a = c .before .before .before .before .before .before .args in
-    omega (arith, header-room (a .s .now) (a .at) (a .end) _ (c .before .before .before .header-of .ensures ∙ ap headerOf (c .before .before .before .before .between .ensures)) (g .0 .0) (g .0 .1 .0) (g .0 .1 .1 .0) (cc))
+    let id = c .before in
+    let header-of = id .before .before in
+    let between = header-of .before in
+    let start = between .before .before in
+    let g = id .id .given in
+    let a = start .args in
+    omega (
+      arith,
+      header-room (a .s .now) (a .at) (a .end) _ (header-of .header-of .ensures ∙ ap headerOf (between .between .ensures)) (g .0 .0)
+          (g .0 .1 .0) (g .0 .1 .1 .0) (cc),
+    )
 
 returns : tie.Need-returns
 unfolding moved
@@ -40,8 +56,11 @@ returns c = field-moved _ _ _ _ NoHeader (c .before .before .header-of .ensures 
 returns-2 : tie.Need-returns-2
 unfolding moved
 returns-2 c =
-    let g = c .before .id .given in
-    field-moved _ _ _ _ (At (g .0 .0) (g .0 .1 .0) (g .0 .1 .1 .0)) (c .before .before .before .header-of .ensures ∙ ap headerOf (c .before .before .before .before .between .ensures)) (cc)
+    let id = c .before in
+    let header-of = id .before .before in
+    let between = header-of .before in
+    let g = id .id .given in
+    field-moved _ _ _ _ (At (g .0 .0) (g .0 .1 .0) (g .0 .1 .1 .0)) (header-of .header-of .ensures ∙ ap headerOf (between .between .ensures)) (cc)
 
 pub field-at-spec : {M : Type 1} → statement M
 field-at-spec =

@@ -32,23 +32,35 @@ linked-with-requires c κs = search needs
 
 returns : tie.Need-returns
 returns c =
-    let g = c .before .before .before .before .before .id .given in
-    let a = c .before .before .before .before .before .before .before .before .before .args in
+    let number-under = c .before in
+    let between = number-under .before .before in
+    let id = between .before .before in
+    let field-at = id .before .before in
+    let start = field-at .before .before in
+    let g = id .id .given in
+    let a = start .args in
     c .linked-with .ensures (a .s .now) (a .end)
-    ∙ linked-80 _ _ _ _ (c .before .before .before .before .before .before .before .field-at .ensures) (g .0 .0) (g .0 .1 .0) (g .0 .1 .1 .0) (cc) _ _ (c .before .before .before .between .ensures) (c .before .number-under .ensures) (omega arith)
+    ∙ linked-80 _ _ _ _ (field-at .field-at .ensures) (g .0 .0) (g .0 .1 .0) (g .0 .1 .1 .0) (cc) _ _ (between .between .ensures)
+    (number-under .number-under .ensures) (omega arith)
 
 returns-2 : tie.Need-returns-2
 unfolding readLinked
 returns-2 c =
-    let g = c .before .before .before .before .id .given in
-    linked-other _ _ _ _ (c .before .before .before .before .before .before .field-at .ensures) (g .0 .0) (g .0 .1 .0) (g .0 .1 .1 .0) (cc) (omega arith) (omega arith)
+    let id = c .before .before .before .before in
+    let field-at = id .before .before in
+    let g = id .id .given in
+    linked-other _ _ _ _ (field-at .field-at .ensures) (g .0 .0) (g .0 .1 .0) (g .0 .1 .1 .0) (cc) (omega arith) (omega arith)
 
 returns-3 : tie.Need-returns-3
 unfolding readLinked
 returns-3 c =
-    let g = c .before .before .before .before .before .id .given in
-    cond-true _ _ (eq-eqb (length (c .before .before .before .between .result .now)) 0 (omega arith))
-    ∙ linked-81 _ _ _ _ (c .before .before .before .before .before .before .before .field-at .ensures) (g .0 .0) (g .0 .1 .0) (g .0 .1 .1 .0) (cc) (omega arith) (omega arith) _ (c .before .before .before .between .ensures)
+    let between = c .before .before .before in
+    let id = between .before .before in
+    let field-at = id .before .before in
+    let g = id .id .given in
+    cond-true _ _ (eq-eqb (length (between .between .result .now)) 0 (omega arith))
+    ∙ linked-81 _ _ _ _ (field-at .field-at .ensures) (g .0 .0) (g .0 .1 .0) (g .0 .1 .1 .0) (cc) (omega arith) (omega arith) _
+    (between .between .ensures)
 
 returns-4 : tie.Need-returns-4
 unfolding readLinked linkedOf
@@ -59,9 +71,13 @@ returns-4 c =
 returns-5 : tie.Need-returns-5
 unfolding readLinked
 returns-5 c =
-    let g = c .before .before .before .before .before .id .given in
-    cond-false _ _ (ne-eqb (length (c .before .before .before .between .result .now)) 0 (omega arith))
-    ∙ linked-81 _ _ _ _ (c .before .before .before .before .before .before .before .field-at .ensures) (g .0 .0) (g .0 .1 .0) (g .0 .1 .1 .0) (cc) (omega arith) (omega arith) _ (c .before .before .before .between .ensures)
+    let between = c .before .before .before in
+    let id = between .before .before in
+    let field-at = id .before .before in
+    let g = id .id .given in
+    cond-false _ _ (ne-eqb (length (between .between .result .now)) 0 (omega arith))
+    ∙ linked-81 _ _ _ _ (field-at .field-at .ensures) (g .0 .0) (g .0 .1 .0) (g .0 .1 .1 .0) (cc) (omega arith) (omega arith) _
+    (between .between .ensures)
 
 pub linked-id-spec : {M : Type 1} → statement M
 linked-id-spec =

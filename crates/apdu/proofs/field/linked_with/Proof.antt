@@ -17,7 +17,10 @@ enum-told c = search needs
 
 returns : tie.Need-returns
 unfolding linkedWith readLinked
-returns c = λ s end. when-is (λ m. linkedWith m (fields (part s (c .before .before .before .args .next) end))) (c .before .before .before .args .n) (Of (c .before .n .given .0 .0)) (cc)
+returns c =
+    let n = c .before in
+    let start = n .before .before in
+    λ s end. when-is (λ m. linkedWith m (fields (part s (start .args .next) end))) (start .args .n) (Of (n .n .given .0 .0)) (cc)
 
 returns-2 : tie.Need-returns-2
 unfolding linkedWith readLinked

@@ -31,15 +31,25 @@ returns c = no-field _ _ _ _ (c .before .before .field-at .ensures) (codedWith (
 returns-2 : tie.Need-returns-2
 unfolding codedWith readValue readCoded
 returns-2 c =
-    let g = c .before .before .before .before .next .given in
-    one-field _ _ _ _ (c .before .before .before .before .before .before .field-at .ensures) (codedWith (c .before .before .before .before .before .before .before .before .args .code)) (g .0 .0) (g .0 .1 .0) (g .0 .1 .1 .0) (cc) _ (c .before .before .field-at2 .ensures) (cc)
+    let field-at2 = c .before .before in
+    let next = field-at2 .before .before in
+    let field-at = next .before .before in
+    let start = field-at .before .before in
+    let g = next .next .given in
+    one-field _ _ _ _ (field-at .field-at .ensures) (codedWith (start .args .code)) (g .0 .0) (g .0 .1 .0) (g .0 .1 .1 .0) (cc) _
+    (field-at2 .field-at2 .ensures) (cc)
 
 returns-3 : tie.Need-returns-3
 unfolding codedWith readValue readCoded
 returns-3 c =
-    let g = c .before .before .before .before .next .given in
+    let field-at2 = c .before .before in
+    let next = field-at2 .before .before in
+    let field-at = next .before .before in
+    let start = field-at .before .before in
+    let g = next .next .given in
     let h = c .enum-told3 .given in
-    more-fields _ _ _ _ (c .before .before .before .before .before .before .field-at .ensures) (codedWith (c .before .before .before .before .before .before .before .before .args .code)) (g .0 .0) (g .0 .1 .0) (g .0 .1 .1 .0) (cc) _ (c .before .before .field-at2 .ensures) (h .0 .0) (h .0 .1 .0) (h .0 .1 .1 .0) (cc)
+    more-fields _ _ _ _ (field-at .field-at .ensures) (codedWith (start .args .code)) (g .0 .0) (g .0 .1 .0) (g .0 .1 .1 .0) (cc) _
+    (field-at2 .field-at2 .ensures) (h .0 .0) (h .0 .1 .0) (h .0 .1 .1 .0) (cc)
 
 pub value-behind-spec : {M : Type 1} → statement M
 value-behind-spec =

@@ -18,14 +18,22 @@ enum-known-code c = search needs
 
 returns : tie.Need-returns
 unfolding readParsed readCoded errorOf
-returns c = let a = c .before .before .before .before .args in read-as (readCoded (a .s .now)) (errorOf (a .id)) (c .before .before .code-and-value .result) _ (c .before .before .code-and-value .ensures) NoCode (cc)
+returns c =
+    let code-and-value = c .before .before in
+    let start = code-and-value .before .before in
+    let a = start .args in read-as (readCoded (a .s .now)) (errorOf (a .id)) (code-and-value .code-and-value .result) _
+    (code-and-value .code-and-value .ensures) NoCode (cc)
 
 returns-2 : tie.Need-returns-2
 unfolding readParsed readCoded errorOf
 returns-2 c =
-    let a = c .before .before .before .before .before .args in
-    let h = c .before .code .given in
-    read-as (readCoded (a .s .now)) (errorOf (a .id)) (c .before .before .before .code-and-value .result) _ (c .before .before .before .code-and-value .ensures) (Is (h .0 .0) (h .0 .1 .0)) (cc)
+    let code = c .before in
+    let code-and-value = code .before .before in
+    let start = code-and-value .before .before in
+    let a = start .args in
+    let h = code .code .given in
+    read-as (readCoded (a .s .now)) (errorOf (a .id)) (code-and-value .code-and-value .result) _ (code-and-value .code-and-value .ensures)
+    (Is (h .0 .0) (h .0 .1 .0)) (cc)
 
 pub error-spec : {M : Type 1} → statement M
 error-spec =

@@ -30,25 +30,40 @@ enum-known-code c = search needs
 returns : tie.Need-returns
 unfolding readParsed readLinked invokeOf
 returns c =
-    let a = c .before .before .before .before .args in
-    read-as (readLinked (a .s .now) (a .end)) (invokeOf (a .id)) (c .before .before .linked-id .result) _ (c .before .before .linked-id .ensures) NoLink (cc)
+    let linked-id = c .before .before in
+    let start = linked-id .before .before in
+    let a = start .args in
+    read-as (readLinked (a .s .now) (a .end)) (invokeOf (a .id)) (linked-id .linked-id .result) _ (linked-id .linked-id .ensures) NoLink (cc)
 
 returns-2 : tie.Need-returns-2
 unfolding readParsed readLinked readCoded invokeOf invokeWith
 returns-2 c =
-    let a = c .before .before .before .before .before .before .before .before .args in
-    let g = c .before .before .before .before .linked .given in
-    read-as (readCoded (a .s .now)) (invokeWith (a .id) (g .0 .0)) (c .before .before .code-and-value .result) _ (c .before .before .code-and-value .ensures) NoCode (cc)
-    ∙ read-as (readLinked (a .s .now) (a .end)) (invokeOf (a .id)) (c .before .before .before .before .before .before .linked-id .result) _ (c .before .before .before .before .before .before .linked-id .ensures) (To (g .0 .0) (g .0 .1 .0)) (cc)
+    let code-and-value = c .before .before in
+    let linked = code-and-value .before .before in
+    let linked-id = linked .before .before in
+    let start = linked-id .before .before in
+    let a = start .args in
+    let g = linked .linked .given in
+    read-as (readCoded (a .s .now)) (invokeWith (a .id) (g .0 .0)) (code-and-value .code-and-value .result) _
+    (code-and-value .code-and-value .ensures) NoCode (cc)
+    ∙ read-as (readLinked (a .s .now) (a .end)) (invokeOf (a .id)) (linked-id .linked-id .result) _ (linked-id .linked-id .ensures)
+    (To (g .0 .0) (g .0 .1 .0)) (cc)
 
 returns-3 : tie.Need-returns-3
 unfolding readParsed readLinked readCoded invokeOf invokeWith
 returns-3 c =
-    let a = c .before .before .before .before .before .before .before .before .before .args in
-    let g = c .before .before .before .before .before .linked .given in
-    let h = c .before .code .given in
-    read-as (readCoded (a .s .now)) (invokeWith (a .id) (g .0 .0)) (c .before .before .before .code-and-value .result) _ (c .before .before .before .code-and-value .ensures) (Is (h .0 .0) (h .0 .1 .0)) (cc)
-    ∙ read-as (readLinked (a .s .now) (a .end)) (invokeOf (a .id)) (c .before .before .before .before .before .before .before .linked-id .result) _ (c .before .before .before .before .before .before .before .linked-id .ensures) (To (g .0 .0) (g .0 .1 .0)) (cc)
+    let code = c .before in
+    let code-and-value = code .before .before in
+    let linked = code-and-value .before .before in
+    let linked-id = linked .before .before in
+    let start = linked-id .before .before in
+    let a = start .args in
+    let g = linked .linked .given in
+    let h = code .code .given in
+    read-as (readCoded (a .s .now)) (invokeWith (a .id) (g .0 .0)) (code-and-value .code-and-value .result) _
+    (code-and-value .code-and-value .ensures) (Is (h .0 .0) (h .0 .1 .0)) (cc)
+    ∙ read-as (readLinked (a .s .now) (a .end)) (invokeOf (a .id)) (linked-id .linked-id .result) _ (linked-id .linked-id .ensures)
+    (To (g .0 .0) (g .0 .1 .0)) (cc)
 
 pub invoke-spec : {M : Type 1} → statement M
 invoke-spec =

@@ -32,9 +32,14 @@ returns c = no-field _ _ _ _ (c .before .before .field-at .ensures) rejectOf (cc
 returns-2 : tie.Need-returns-2
 unfolding rejectOf
 returns-2 c =
-    let g = c .before .before .before .before .identifier .given in
+    let number-under = c .before in
+    let between = number-under .before in
+    let identifier = between .before .before in
+    let field-at = identifier .before .before in
+    let g = identifier .identifier .given in
     c .reject-behind .ensures
-    ∙ number-first _ _ _ _ (c .before .before .before .before .before .before .field-at .ensures) (g .0 .0) (g .0 .1 .0) (g .0 .1 .1 .0) (cc) rejectOf (λ m. rejectBehind m (g .0 .0)) _ _ (c .before .before .between .ensures) (c .before .number-under .ensures) refl
+    ∙ number-first _ _ _ _ (field-at .field-at .ensures) (g .0 .0) (g .0 .1 .0) (g .0 .1 .1 .0) (cc) rejectOf (λ m. rejectBehind m (g .0 .0)) _ _
+    (between .between .ensures) (number-under .number-under .ensures) refl
 
 pub reject-spec : {M : Type 1} → statement M
 reject-spec =

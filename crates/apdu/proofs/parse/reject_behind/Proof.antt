@@ -38,18 +38,29 @@ returns c = let a = c .before .before .before .before .args in no-field _ _ _ _ 
 returns-2 : tie.Need-returns-2
 unfolding rejectBehind
 returns-2 c =
-    let g = c .before .before .before .before .before .before .kind .given in
-    let a = c .before .before .before .before .before .before .before .before .before .before .args in
-    c .reject-with .ensures (a .s .now) ∙ ap (rejectWith (a .n) (a .identifier) (g .0 .0)) (c .before .between .ensures)
-    ∙ one-field _ _ _ _ (c .before .before .before .before .before .before .before .before .field-at .ensures) (rejectBehind (a .n) (a .identifier)) (g .0 .0) (g .0 .1 .0) (g .0 .1 .1 .0) (cc) _ (c .before .before .before .before .field-at2 .ensures) (cc)
+    let between = c .before in
+    let field-at2 = between .before .before .before in
+    let kind = field-at2 .before .before in
+    let field-at = kind .before .before in
+    let start = field-at .before .before in
+    let g = kind .kind .given in
+    let a = start .args in
+    c .reject-with .ensures (a .s .now) ∙ ap (rejectWith (a .n) (a .identifier) (g .0 .0)) (between .between .ensures)
+    ∙ one-field _ _ _ _ (field-at .field-at .ensures) (rejectBehind (a .n) (a .identifier)) (g .0 .0) (g .0 .1 .0) (g .0 .1 .1 .0) (cc) _
+    (field-at2 .field-at2 .ensures) (cc)
 
 returns-3 : tie.Need-returns-3
 unfolding readParsed rejectBehind
 returns-3 c =
-    let g = c .before .before .before .before .kind .given in
+    let field-at2 = c .before .before in
+    let kind = field-at2 .before .before in
+    let field-at = kind .before .before in
+    let start = field-at .before .before in
+    let g = kind .kind .given in
     let h = c .enum-told3 .given in
-    let a = c .before .before .before .before .before .before .before .before .args in
-    more-fields _ _ _ _ (c .before .before .before .before .before .before .field-at .ensures) (rejectBehind (a .n) (a .identifier)) (g .0 .0) (g .0 .1 .0) (g .0 .1 .1 .0) (cc) _ (c .before .before .field-at2 .ensures) (h .0 .0) (h .0 .1 .0) (h .0 .1 .1 .0) (cc)
+    let a = start .args in
+    more-fields _ _ _ _ (field-at .field-at .ensures) (rejectBehind (a .n) (a .identifier)) (g .0 .0) (g .0 .1 .0) (g .0 .1 .1 .0) (cc) _
+    (field-at2 .field-at2 .ensures) (h .0 .0) (h .0 .1 .0) (h .0 .1 .1 .0) (cc)
 
 pub reject-behind-spec : {M : Type 1} → statement M
 reject-behind-spec =

@@ -23,10 +23,13 @@ enum-known-identifier c = search needs
 returns : tie.Need-returns
 unfolding readParsed
 returns c =
-    let g = c .before .before .identifier .given in
-    let a = c .before .before .before .before .before .before .args in
+    let identifier = c .before .before in
+    let field-at = identifier .before .before in
+    let start = field-at .before .before in
+    let g = identifier .identifier .given in
+    let a = start .args in
     result-not (a .id) (fieldFrom (a .s .now) (a .at) (g .0 .0) (g .0 .1 .0) (g .0 .1 .1 .0)) _ (omega arith)
-    ∙ first-field _ _ _ _ (c .before .before .before .before .field-at .ensures) (resultOf (a .id)) (g .0 .0) (g .0 .1 .0) (g .0 .1 .1 .0) (cc)
+    ∙ first-field _ _ _ _ (field-at .field-at .ensures) (resultOf (a .id)) (g .0 .0) (g .0 .1 .0) (g .0 .1 .1 .0) (cc)
 
 field-at-requires-2 : tie.Need-field-at-requires-2
 field-at-requires-2 c κs = search needs
@@ -50,17 +53,29 @@ returns-2 c = no-field _ _ _ _ (c .before .before .field-at .ensures) (resultOf 
 returns-3 : tie.Need-returns-3
 unfolding resultOf
 returns-3 c =
-    let g = c .before .before .before .before .before .before .before .identifier .given in
-    let a = c .before .before .before .before .before .before .before .before .before .before .before .args in
-    c .result-with .ensures (a .s .now) ∙ ap (resultWith (a .id)) (c .before .code-and-value .ensures) ∙ cond-true _ _ (eq-eqb (g .0 .0) 0x30 (omega arith))
-    ∙ one-field _ _ _ _ (c .before .before .before .before .before .before .before .before .before .field-at .ensures) (resultOf (a .id)) (g .0 .0) (g .0 .1 .0) (g .0 .1 .1 .0) (cc) _ (c .before .before .before .before .field-at2 .ensures) (cc)
+    let code-and-value = c .before in
+    let field-at2 = code-and-value .before .before .before in
+    let identifier = field-at2 .before .before .before in
+    let field-at = identifier .before .before in
+    let start = field-at .before .before in
+    let g = identifier .identifier .given in
+    let a = start .args in
+    c .result-with .ensures (a .s .now) ∙ ap (resultWith (a .id)) (code-and-value .code-and-value .ensures) ∙ cond-true _ _
+    (eq-eqb (g .0 .0) 0x30 (omega arith))
+    ∙ one-field _ _ _ _ (field-at .field-at .ensures) (resultOf (a .id)) (g .0 .0) (g .0 .1 .0) (g .0 .1 .1 .0) (cc) _ (field-at2 .field-at2 .ensures)
+    (cc)
 
 returns-4 : tie.Need-returns-4
 unfolding readParsed resultOf
 returns-4 c =
-    let g = c .before .before .before .before .before .identifier .given in
+    let field-at2 = c .before .before in
+    let identifier = field-at2 .before .before .before in
+    let field-at = identifier .before .before in
+    let start = field-at .before .before in
+    let g = identifier .identifier .given in
     let h = c .enum-told3 .given in
-    more-fields _ _ _ _ (c .before .before .before .before .before .before .before .field-at .ensures) (resultOf (c .before .before .before .before .before .before .before .before .before .args .id)) (g .0 .0) (g .0 .1 .0) (g .0 .1 .1 .0) (cc) _ (c .before .before .field-at2 .ensures) (h .0 .0) (h .0 .1 .0) (h .0 .1 .1 .0) (cc)
+    more-fields _ _ _ _ (field-at .field-at .ensures) (resultOf (start .args .id)) (g .0 .0) (g .0 .1 .0) (g .0 .1 .1 .0) (cc) _
+    (field-at2 .field-at2 .ensures) (h .0 .0) (h .0 .1 .0) (h .0 .1 .1 .0) (cc)
 
 pub result-spec : {M : Type 1} → statement M
 result-spec =

@@ -26,11 +26,18 @@ returns c = λ s. when-is (λ k. resultWith (c .before .before .args .id) (readC
 
 returns-2 : tie.Need-returns-2
 unfolding readParsed readCoded readValue resultWith
-returns-2 c = λ s. when-is (λ k. resultWith (c .before .before .before .before .before .args .id) (readCoded s k)) (c .before .before .before .before .before .args .c) (Is (c .before .before .before .c .given .0 .0) Absent) (cc)
+returns-2 c =
+    let c′ = c .before .before .before in
+    let start = c′ .before .before in
+    λ s. when-is (λ k. resultWith (start .args .id) (readCoded s k)) (start .args .c) (Is (c′ .c .given .0 .0) Absent) (cc)
 
 returns-3 : tie.Need-returns-3
 unfolding readParsed readCoded readValue readBody resultWith
-returns-3 c = λ s. when-is (λ k. resultWith (c .before .before .before .before .before .before .args .id) (readCoded s k)) (c .before .before .before .before .before .before .args .c) (Is (c .before .before .before .before .c .given .0 .0) (At (c .before .value .given .0 .0))) (cc)
+returns-3 c =
+    let value = c .before in
+    let c′ = value .before .before .before in
+    let start = c′ .before .before in
+    λ s. when-is (λ k. resultWith (start .args .id) (readCoded s k)) (start .args .c) (Is (c′ .c .given .0 .0) (At (value .value .given .0 .0))) (cc)
 
 pub result-with-spec : {M : Type 1} → statement M
 result-with-spec =

@@ -32,10 +32,16 @@ returns c = no-field _ _ _ _ (c .before .before .field-at .ensures) (withId (c .
 returns-2 : tie.Need-returns-2
 unfolding withId
 returns-2 c =
-    let g = c .before .before .before .before .identifier .given in
-    let a = c .before .before .before .before .before .before .before .before .args in
+    let number-under = c .before in
+    let between = number-under .before in
+    let identifier = between .before .before in
+    let field-at = identifier .before .before in
+    let start = field-at .before .before in
+    let g = identifier .identifier .given in
+    let a = start .args in
     c .behind-id .ensures
-    ∙ number-first _ _ _ _ (c .before .before .before .before .before .before .field-at .ensures) (g .0 .0) (g .0 .1 .0) (g .0 .1 .1 .0) (cc) (withId (a .first)) (behindId (a .first)) _ _ (c .before .before .between .ensures) (c .before .number-under .ensures) refl
+    ∙ number-first _ _ _ _ (field-at .field-at .ensures) (g .0 .0) (g .0 .1 .0) (g .0 .1 .1 .0) (cc) (withId (a .first)) (behindId (a .first)) _ _
+    (between .between .ensures) (number-under .number-under .ensures) refl
 
 pub with-id-spec : {M : Type 1} → statement M
 with-id-spec =

@@ -83,7 +83,9 @@ contents-element-requires : (t : ℕ) → contents-lts.Need-element-requires (
   element.Post,
 ) (contents-at t) contents.Post contents-Inv-loop contents-μ-loop
 contents-element-requires t c κs =
-    (omega (arith, ap length (rest (c .before .before .before .before .args .s .now) (c .before .before .loop .at)), length-drop (c .before .before .loop .at) (c .before .before .before .before .args .s .now), c .before .before .before .before .pre .0), tt)
+    let loop = c .before .before in
+    let start = loop .before .before in
+    (omega (arith, ap length (rest (start .args .s .now) (loop .loop .at)), length-drop (loop .loop .at) (start .args .s .now), start .pre .0), tt)
 
 contents-enum-told :
     (t : ℕ) →
@@ -104,7 +106,11 @@ contents-returns :
     contents-Inv-loop
     contents-μ-loop
 contents-returns t c =
-    sym (c .before .before .before .before .before .loop .inv .1 ∙ rest-fault (c .before .before .before .before .before .before .before .args .levels) (c .before .before .before .before .before .before .before .args .s .now) (c .before .before .before .before .before .loop .at) (c .before .before .element .result) (c .before .before .element .ensures) (omega arith) (cc))
+    let element = c .before .before in
+    let loop = element .before .before .before in
+    let start = loop .before .before in
+    sym (loop .loop .inv .1 ∙ rest-fault (start .args .levels) (start .args .s .now) (loop .loop .at) (element .element .result)
+    (element .element .ensures) (omega arith) (cc))
 
 contents-enum-known-len : (t : ℕ) → contents-lts.Need-enum-known-len (
   element-below t,
@@ -121,7 +127,16 @@ contents-add-at :
     contents-Inv-loop
     contents-μ-loop
 contents-add-at t c =
-    omega (arith, rest-room (c .before .before .before .before .before .before .before .before .args .levels) (c .before .before .before .before .before .before .before .before .args .s .now) (c .before .before .before .before .before .before .loop .at) (c .before .before .before .element .result) (c .before .before .before .element .ensures) (c .before .len .given .0 .0) (cc), c .before .before .before .before .before .before .before .before .good)
+    let len = c .before in
+    let element = len .before .before in
+    let loop = element .before .before .before in
+    let start = loop .before .before in
+    omega (
+      arith,
+      rest-room (start .args .levels) (start .args .s .now) (loop .loop .at) (element .element .result) (element .element .ensures)
+          (len .len .given .0 .0) (cc),
+      start .good,
+    )
 
 contents-loop-less :
     (t : ℕ) →
@@ -132,7 +147,15 @@ contents-loop-less :
     contents-Inv-loop
     contents-μ-loop
 contents-loop-less t c =
-    omega (arith, rest-room (c .before .before .before .before .before .before .before .before .args .levels) (c .before .before .before .before .before .before .before .before .args .s .now) (c .before .before .before .before .before .before .loop .at) (c .before .before .before .element .result) (c .before .before .before .element .ensures) (c .before .len .given .0 .0) (cc))
+    let len = c .before in
+    let element = len .before .before in
+    let loop = element .before .before .before in
+    let start = loop .before .before in
+    omega (
+      arith,
+      rest-room (start .args .levels) (start .args .s .now) (loop .loop .at) (element .element .result) (element .element .ensures)
+          (len .len .given .0 .0) (cc),
+    )
 
 contents-loop-again :
     (t : ℕ) →
@@ -142,10 +165,16 @@ contents-loop-again :
     contents.Post
     contents-Inv-loop
     contents-μ-loop
-contents-loop-again t c = (
-  omega (arith, rest-room (c .before .before .before .before .before .before .before .before .args .levels) (c .before .before .before .before .before .before .before .before .args .s .now) (c .before .before .before .before .before .before .loop .at) (c .before .before .before .element .result) (c .before .before .before .element .ensures) (c .before .len .given .0 .0) (cc)),
-  c .before .before .before .before .before .before .loop .inv .1 ∙ rest-step (c .before .before .before .before .before .before .before .before .args .levels) (c .before .before .before .before .before .before .before .before .args .s .now) (c .before .before .before .before .before .before .loop .at) (c .before .before .before .element .result) (c .before .before .before .element .ensures) (c .before .len .given .0 .0) (cc),
-)
+contents-loop-again t c =
+    let len = c .before in
+    let element = len .before .before in
+    let loop = element .before .before .before in
+    let start = loop .before .before in (
+      omega
+          (arith, rest-room (start .args .levels) (start .args .s .now) (loop .loop .at) (element .element .result) (element .element .ensures) (len .len .given .0 .0) (cc)),
+      loop .loop .inv .1 ∙ rest-step (start .args .levels) (start .args .s .now) (loop .loop .at) (element .element .result) (element .element .ensures)
+          (len .len .given .0 .0) (cc),
+    )
 
 contents-returns-2 :
     (t : ℕ) →
@@ -156,7 +185,9 @@ contents-returns-2 :
     contents-Inv-loop
     contents-μ-loop
 contents-returns-2 t c =
-    sym (c .before .loop .inv .1 ∙ rest-end (c .before .before .before .args .levels) (c .before .before .before .args .s .now) (c .before .loop .at) (omega arith))
+    let loop = c .before in
+    let start = loop .before .before in
+    sym (loop .loop .inv .1 ∙ rest-end (start .args .levels) (start .args .s .now) (loop .loop .at) (omega arith))
 
 element-returns : (t : ℕ) → element-lts.Need-returns (
   header-of-reads.Asked,
@@ -206,7 +237,16 @@ element-sub-c : (t : ℕ) → element-lts.Need-sub-c (
   contents-below t,
   contents.Post,
 ) (element-at t) element.Post
-element-sub-c t c = omega (arith, header-room (c .before .before .before .before .before .before .args .levels) (c .before .before .before .before .before .before .args .s .now) (c .before .before .before .header-of .result) (c .before .before .before .before .if1 .left) (c .before .before .before .header-of .ensures) (c .before .id .given .0 .0) (c .before .id .given .0 .1 .0) (c .before .id .given .0 .1 .1 .0) (cc))
+element-sub-c t c =
+    let id = c .before in
+    let header-of = id .before .before in
+    let if1 = header-of .before in
+    let start = if1 .before .before in
+    omega (
+      arith,
+      header-room (start .args .levels) (start .args .s .now) (header-of .header-of .result) (if1 .if1 .left)
+          (header-of .header-of .ensures) (id .id .given .0 .0) (id .id .given .0 .1 .0) (id .id .given .0 .1 .1 .0) (cc),
+    )
 
 element-part-c-start : (t : ℕ) → element-lts.Need-part-c-start (
   header-of-reads.Asked,
@@ -216,7 +256,16 @@ element-part-c-start : (t : ℕ) → element-lts.Need-part-c-start (
   contents-below t,
   contents.Post,
 ) (element-at t) element.Post
-element-part-c-start t c = omega (arith, header-room (c .before .before .before .before .before .before .args .levels) (c .before .before .before .before .before .before .args .s .now) (c .before .before .before .header-of .result) (c .before .before .before .before .if1 .left) (c .before .before .before .header-of .ensures) (c .before .id .given .0 .0) (c .before .id .given .0 .1 .0) (c .before .id .given .0 .1 .1 .0) (cc))
+element-part-c-start t c =
+    let id = c .before in
+    let header-of = id .before .before in
+    let if1 = header-of .before in
+    let start = if1 .before .before in
+    omega (
+      arith,
+      header-room (start .args .levels) (start .args .s .now) (header-of .header-of .result) (if1 .if1 .left)
+          (header-of .header-of .ensures) (id .id .given .0 .0) (id .id .given .0 .1 .0) (id .id .given .0 .1 .1 .0) (cc),
+    )
 
 element-part-c-end : (t : ℕ) → element-lts.Need-part-c-end (
   header-of-reads.Asked,
@@ -226,7 +275,16 @@ element-part-c-end : (t : ℕ) → element-lts.Need-part-c-end (
   contents-below t,
   contents.Post,
 ) (element-at t) element.Post
-element-part-c-end t c = omega (arith, header-room (c .before .before .before .before .before .before .args .levels) (c .before .before .before .before .before .before .args .s .now) (c .before .before .before .header-of .result) (c .before .before .before .before .if1 .left) (c .before .before .before .header-of .ensures) (c .before .id .given .0 .0) (c .before .id .given .0 .1 .0) (c .before .id .given .0 .1 .1 .0) (cc))
+element-part-c-end t c =
+    let id = c .before in
+    let header-of = id .before .before in
+    let if1 = header-of .before in
+    let start = if1 .before .before in
+    omega (
+      arith,
+      header-room (start .args .levels) (start .args .s .now) (header-of .header-of .result) (if1 .if1 .left)
+          (header-of .header-of .ensures) (id .id .given .0 .0) (id .id .given .0 .1 .0) (id .id .given .0 .1 .1 .0) (cc),
+    )
 
 element-content-rule-requires : (t : ℕ) → element-lts.Need-content-rule-requires (
   header-of-reads.Asked,
@@ -257,7 +315,14 @@ element-contents-requires : (t : ℕ) → element-lts.Need-contents-requires (
   contents.Post,
 ) (element-at t) element.Post
 element-contents-requires t c κs =
-    (omega (arith, part-shorter (c .before .before .before .before .before .before .before .before .before .before .args .s .now) (c .before .before .before .before .before .id .given .0 .0) (c .before .before .before .before .before .id .given .0 .1 .0) (c .before .before .before .before .before .id .given .0 .1 .1 .0) (header-room (c .before .before .before .before .before .before .before .before .before .before .args .levels) (c .before .before .before .before .before .before .before .before .before .before .args .s .now) (c .before .before .before .before .before .before .before .header-of .result) (c .before .before .before .before .before .before .before .before .if1 .left) (c .before .before .before .before .before .before .before .header-of .ensures) (c .before .before .before .before .before .id .given .0 .0) (c .before .before .before .before .before .id .given .0 .1 .0) (c .before .before .before .before .before .id .given .0 .1 .1 .0) (cc)), c .before .before .before .before .before .before .before .before .before .before .pre .0), tt)
+    let id = c .before .before .before .before .before in
+    let header-of = id .before .before in
+    let if1 = header-of .before in
+    let start = if1 .before .before in (
+      omega
+          (arith, part-shorter (start .args .s .now) (id .id .given .0 .0) (id .id .given .0 .1 .0) (id .id .given .0 .1 .1 .0) (header-room (start .args .levels) (start .args .s .now) (header-of .header-of .result) (if1 .if1 .left) (header-of .header-of .ensures) (id .id .given .0 .0) (id .id .given .0 .1 .0) (id .id .given .0 .1 .1 .0) (cc)), start .pre .0),
+      tt,
+    )
 
 element-returns-2 : (t : ℕ) → element-lts.Need-returns-2 (
   header-of-reads.Asked,
@@ -278,7 +343,16 @@ element-returns-3 : (t : ℕ) → element-lts.Need-returns-3 (
   contents.Post,
 ) (element-at t) element.Post
 element-returns-3 t c =
-    element-constructed (c .before .before .before .before .before .before .before .before .before .before .before .before .args .levels) (c .before .before .before .before .before .before .before .before .before .before .before .before .args .s .now) (c .before .before .before .before .before .before .before .before .before .header-of .result) (c .before .before .before .before .before .before .before .before .before .before .if1 .left) (c .before .before .before .before .before .before .before .before .before .header-of .ensures) (c .before .before .before .before .before .before .before .id .given .0 .0) (c .before .before .before .before .before .before .before .id .given .0 .1 .0) (c .before .before .before .before .before .before .before .id .given .0 .1 .1 .0) (cc) (sym (c .before .before .before .before .content-rule .ensures) ∙ c .before .before .before .if2 .taken) (omega arith) (sym (c .before .contents .ensures) ∙ c .if4 .taken)
+    let contents = c .before in
+    let if2 = contents .before .before in
+    let content-rule = if2 .before in
+    let id = content-rule .before .before .before in
+    let header-of = id .before .before in
+    let if1 = header-of .before in
+    let start = if1 .before .before in
+    element-constructed (start .args .levels) (start .args .s .now) (header-of .header-of .result) (if1 .if1 .left) (header-of .header-of .ensures)
+    (id .id .given .0 .0) (id .id .given .0 .1 .0) (id .id .given .0 .1 .1 .0) (cc) (sym (content-rule .content-rule .ensures) ∙ if2 .if2 .taken)
+    (omega arith) (sym (contents .contents .ensures) ∙ c .if4 .taken)
 
 element-returns-4 : (t : ℕ) → element-lts.Need-returns-4 (
   header-of-reads.Asked,
@@ -289,7 +363,13 @@ element-returns-4 : (t : ℕ) → element-lts.Need-returns-4 (
   contents.Post,
 ) (element-at t) element.Post
 element-returns-4 t c =
-    element-inside-wrong (c .before .before .before .before .before .before .before .before .before .before .before .before .args .levels) (c .before .before .before .before .before .before .before .before .before .before .before .before .args .s .now) (c .before .before .before .before .before .before .before .before .before .header-of .result) (c .before .before .before .before .before .before .before .before .before .before .if1 .left) (c .before .before .before .before .before .before .before .before .before .header-of .ensures) (c .before .before .before .before .before .before .before .id .given .0 .0) (c .before .before .before .before .before .before .before .id .given .0 .1 .0) (c .before .before .before .before .before .before .before .id .given .0 .1 .1 .0) (cc) (omega arith) (sym (c .before .contents .ensures) ∙ c .if4 .left)
+    let contents = c .before in
+    let id = contents .before .before .before .before .before .before in
+    let header-of = id .before .before in
+    let if1 = header-of .before in
+    let start = if1 .before .before in
+    element-inside-wrong (start .args .levels) (start .args .s .now) (header-of .header-of .result) (if1 .if1 .left) (header-of .header-of .ensures)
+    (id .id .given .0 .0) (id .id .given .0 .1 .0) (id .id .given .0 .1 .1 .0) (cc) (omega arith) (sym (contents .contents .ensures) ∙ c .if4 .left)
 
 element-returns-5 : (t : ℕ) → element-lts.Need-returns-5 (
   header-of-reads.Asked,
@@ -300,7 +380,15 @@ element-returns-5 : (t : ℕ) → element-lts.Need-returns-5 (
   contents.Post,
 ) (element-at t) element.Post
 element-returns-5 t c =
-    element-primitive (c .before .before .before .before .before .before .before .before .before .before .args .levels) (c .before .before .before .before .before .before .before .before .before .before .args .s .now) (c .before .before .before .before .before .before .before .header-of .result) (c .before .before .before .before .before .before .before .before .if1 .left) (c .before .before .before .before .before .before .before .header-of .ensures) (c .before .before .before .before .before .id .given .0 .0) (c .before .before .before .before .before .id .given .0 .1 .0) (c .before .before .before .before .before .id .given .0 .1 .1 .0) (cc) (sym (c .before .before .content-rule .ensures) ∙ c .before .if2 .taken) (omega arith)
+    let if2 = c .before in
+    let content-rule = if2 .before in
+    let id = content-rule .before .before .before in
+    let header-of = id .before .before in
+    let if1 = header-of .before in
+    let start = if1 .before .before in
+    element-primitive (start .args .levels) (start .args .s .now) (header-of .header-of .result) (if1 .if1 .left) (header-of .header-of .ensures)
+    (id .id .given .0 .0) (id .id .given .0 .1 .0) (id .id .given .0 .1 .1 .0) (cc) (sym (content-rule .content-rule .ensures) ∙ if2 .if2 .taken)
+    (omega arith)
 
 element-returns-6 : (t : ℕ) → element-lts.Need-returns-6 (
   header-of-reads.Asked,
@@ -311,7 +399,13 @@ element-returns-6 : (t : ℕ) → element-lts.Need-returns-6 (
   contents.Post,
 ) (element-at t) element.Post
 element-returns-6 t c =
-    element-wrong (c .before .before .before .before .before .before .before .before .before .args .levels) (c .before .before .before .before .before .before .before .before .before .args .s .now) (c .before .before .before .before .before .before .header-of .result) (c .before .before .before .before .before .before .before .if1 .left) (c .before .before .before .before .before .before .header-of .ensures) (c .before .before .before .before .id .given .0 .0) (c .before .before .before .before .id .given .0 .1 .0) (c .before .before .before .before .id .given .0 .1 .1 .0) (cc) (sym (c .before .content-rule .ensures) ∙ c .if2 .left)
+    let content-rule = c .before in
+    let id = content-rule .before .before .before in
+    let header-of = id .before .before in
+    let if1 = header-of .before in
+    let start = if1 .before .before in
+    element-wrong (start .args .levels) (start .args .s .now) (header-of .header-of .result) (if1 .if1 .left) (header-of .header-of .ensures)
+    (id .id .given .0 .0) (id .id .given .0 .1 .0) (id .id .given .0 .1 .1 .0) (cc) (sym (content-rule .content-rule .ensures) ∙ c .if2 .left)
 
 pub +contents+element-spec : {M : Type 1} → statement M
 +contents+element-spec = close μ-contents μ-element (λ t. contents-lts.spec (

@@ -24,7 +24,10 @@ shared-slice-read-if2 : tie.Need-shared-slice-read-if2 Inv-loop μ-loop
 shared-slice-read-if2 c = omega arith
 
 returns-2 : tie.Need-returns-2 Inv-loop μ-loop
-returns-2 c = omega (arith, continued-stop (4 - c .before .before .before .before .loop .k) (c .before .before .before .before .before .args .s .now) (c .before .before .before .before .loop .k) (omega arith) (omega arith))
+returns-2 c =
+    let loop = c .before .before .before .before in
+    let start = loop .before in
+    omega (arith, continued-stop (4 - loop .loop .k) (start .args .s .now) (loop .loop .k) (omega arith) (omega arith))
 
 add-k : tie.Need-add-k Inv-loop μ-loop
 add-k c = omega arith
@@ -34,8 +37,10 @@ loop-less c = omega arith
 
 loop-again : tie.Need-loop-again Inv-loop μ-loop
 loop-again c =
-    let s = c .before .before .before .before .before .args .s .now in
-    let k = c .before .before .before .before .loop .k in
+    let loop = c .before .before .before .before in
+    let start = loop .before in
+    let s = start .args .s .now in
+    let k = loop .loop .k in
     let e : 4 - k ≡ suc (4 - (k + 1)) = omega arith in
     let m : continued (4 - k) (drop k s) ≡ suc (continued (4 - (k + 1)) (drop (k + 1) s)) =
     ap (λ (n : ℕ). continued n (drop k s)) e ∙ continued-more (4 - (k + 1)) s k (omega arith) (omega arith) in

@@ -31,25 +31,68 @@ enum-known-octets : tie.Need-enum-known-octets
 enum-known-octets c = search needs
 
 add-a : tie.Need-add-a
-add-a c = omega (arith, header-room (c .before .before .before .before .before .before .before .before .args .s .now) (c .before .before .before .before .before .before .identifier-octets .result) (c .before .before .before .length-of .result) (c .before .before .before .before .before .before .identifier-octets .ensures) (c .before .before .before .length-of .ensures) (c .before .octets .given .0 .0) (c .before .octets .given .0 .1 .0) (cc))
+add-a c =
+    let octets = c .before in
+    let length-of = octets .before .before in
+    let identifier-octets = length-of .before .before .before in
+    let start = identifier-octets .before .before in
+    omega
+    (arith, header-room (start .args .s .now) (identifier-octets .identifier-octets .result) (length-of .length-of .result) (identifier-octets .identifier-octets .ensures) (length-of .length-of .ensures) (octets .octets .given .0 .0) (octets .octets .given .0 .1 .0) (cc))
 
 sub-if2 : tie.Need-sub-if2
-sub-if2 c = omega (arith, header-room (c .before .before .before .before .before .before .before .before .args .s .now) (c .before .before .before .before .before .before .identifier-octets .result) (c .before .before .before .length-of .result) (c .before .before .before .before .before .before .identifier-octets .ensures) (c .before .before .before .length-of .ensures) (c .before .octets .given .0 .0) (c .before .octets .given .0 .1 .0) (cc))
+sub-if2 c =
+    let octets = c .before in
+    let length-of = octets .before .before in
+    let identifier-octets = length-of .before .before .before in
+    let start = identifier-octets .before .before in
+    omega
+    (arith, header-room (start .args .s .now) (identifier-octets .identifier-octets .result) (length-of .length-of .result) (identifier-octets .identifier-octets .ensures) (length-of .length-of .ensures) (octets .octets .given .0 .0) (octets .octets .given .0 .1 .0) (cc))
 
 shared-slice-read-t18 : tie.Need-shared-slice-read-t18
-shared-slice-read-t18 c = omega (arith, header-room (c .before .before .before .before .before .before .before .before .before .before .args .s .now) (c .before .before .before .before .before .before .before .before .identifier-octets .result) (c .before .before .before .before .before .length-of .result) (c .before .before .before .before .before .before .before .before .identifier-octets .ensures) (c .before .before .before .before .before .length-of .ensures) (c .before .before .before .octets .given .0 .0) (c .before .before .before .octets .given .0 .1 .0) (cc))
+shared-slice-read-t18 c =
+    let octets = c .before .before .before in
+    let length-of = octets .before .before in
+    let identifier-octets = length-of .before .before .before in
+    let start = identifier-octets .before .before in
+    omega (
+      arith,
+      header-room (start .args .s .now) (identifier-octets .identifier-octets .result) (length-of .length-of .result)
+          (identifier-octets .identifier-octets .ensures) (length-of .length-of .ensures) (octets .octets .given .0 .0) (octets .octets .given .0 .1 .0)
+          (cc),
+    )
 
 add-t19 : tie.Need-add-t19
-add-t19 c = omega (arith, header-room (c .before .before .before .before .before .before .before .before .before .before .args .s .now) (c .before .before .before .before .before .before .before .before .identifier-octets .result) (c .before .before .before .before .before .length-of .result) (c .before .before .before .before .before .before .before .before .identifier-octets .ensures) (c .before .before .before .before .before .length-of .ensures) (c .before .before .before .octets .given .0 .0) (c .before .before .before .octets .given .0 .1 .0) (cc))
+add-t19 c =
+    let octets = c .before .before .before in
+    let length-of = octets .before .before in
+    let identifier-octets = length-of .before .before .before in
+    let start = identifier-octets .before .before in
+    omega (
+      arith,
+      header-room (start .args .s .now) (identifier-octets .identifier-octets .result) (length-of .length-of .result)
+          (identifier-octets .identifier-octets .ensures) (length-of .length-of .ensures) (octets .octets .given .0 .0) (octets .octets .given .0 .1 .0)
+          (cc),
+    )
 
 returns-2 : tie.Need-returns-2
-returns-2 c = header-no-length _ _ _ (c .before .before .before .before .before .identifier-octets .ensures) (c .before .before .length-of .ensures) (omega arith) (cc)
+returns-2 c =
+    let length-of = c .before .before in
+    let identifier-octets = length-of .before .before .before in
+    header-no-length _ _ _ (identifier-octets .identifier-octets .ensures) (length-of .length-of .ensures) (omega arith) (cc)
 
 returns-3 : tie.Need-returns-3
-returns-3 c = header-at _ _ _ (c .before .before .before .before .before .before .before .before .identifier-octets .ensures) (c .before .before .before .before .before .length-of .ensures) _ _ (omega arith) (cc) (omega arith)
+returns-3 c =
+    let length-of = c .before .before .before .before .before in
+    let identifier-octets = length-of .before .before .before in
+    header-at _ _ _ (identifier-octets .identifier-octets .ensures) (length-of .length-of .ensures) _ _ (omega arith) (cc) (omega arith)
 
 returns-4 : tie.Need-returns-4
-returns-4 c = header-cut _ _ _ (c .before .before .before .before .before .before .before .identifier-octets .ensures) (c .before .before .before .before .length-of .ensures) (c .before .before .octets .given .0 .0) (c .before .before .octets .given .0 .1 .0) (omega arith) (cc) (omega arith)
+returns-4 c =
+    let octets = c .before .before in
+    let length-of = octets .before .before in
+    let identifier-octets = length-of .before .before .before in
+    header-cut _ _ _ (identifier-octets .identifier-octets .ensures) (length-of .length-of .ensures) (octets .octets .given .0 .0)
+    (octets .octets .given .0 .1 .0) (omega arith) (cc) (omega arith)
 
 pub header-of-spec : {M : Type 1} → statement M
 header-of-spec =

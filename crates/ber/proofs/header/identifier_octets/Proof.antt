@@ -46,7 +46,9 @@ shared-slice-read-if6 : tie.Need-shared-slice-read-if6
 shared-slice-read-if6 c = search needs
 
 returns-6 : tie.Need-returns-6
-returns-6 c = identifier-high-wrong _ _ (omega arith) (cc) (omega arith) (c .before .before .before .before .continued-octets .ensures) (λ h. h .first (c .if6 .taken))
+returns-6 c =
+    let continued-octets = c .before .before .before .before in
+    identifier-high-wrong _ _ (omega arith) (cc) (omega arith) (continued-octets .continued-octets .ensures) (λ h. h .first (c .if6 .taken))
 
 add-number : tie.Need-add-number
 add-number c = search needs
@@ -58,13 +60,18 @@ number-requires : tie.Need-number-requires
 number-requires c κs = simp length-take (omega arith)
 
 returns-7 : tie.Need-returns-7
-returns-7 c = identifier-high-wrong _ _ (omega arith) (cc) (omega arith) (c .before .before .before .before .before .before .before .continued-octets .ensures) (λ h. omega (arith, h .large))
+returns-7 c =
+    let continued-octets = c .before .before .before .before .before .before .before in
+    identifier-high-wrong _ _ (omega arith) (cc) (omega arith) (continued-octets .continued-octets .ensures) (λ h. omega (arith, h .large))
 
 add-result : tie.Need-add-result
 add-result c = search needs
 
 returns-8 : tie.Need-returns-8
-returns-8 c = identifier-high-right _ _ (omega arith) (cc) (omega arith) (c .before .before .before .before .before .before .before .continued-octets .ensures) (record { few = omega arith; last = omega arith; first = omega arith; large = omega arith })
+returns-8 c =
+    let continued-octets = c .before .before .before .before .before .before .before in
+    identifier-high-right _ _ (omega arith) (cc) (omega arith) (continued-octets .continued-octets .ensures)
+    (record { few = omega arith; last = omega arith; first = omega arith; large = omega arith })
 
 pub identifier-octets-spec : {M : Type 1} → statement M
 identifier-octets-spec =

@@ -32,10 +32,17 @@ rem-n c = omega arith
 
 add-n : tie.Need-add-n Inv-loop μ-loop
 add-n c =
-    let a = c .before .before .before .args in
-    let l = c .before .before .loop in
-    let p = c .before .before .before .pre in
-    omega (arith, digit-bound (l .n) (a .base) (l .i) (getD (a .s .now) (l .i) 0 % a .base) (l .inv .1) (p .3) (mod-lt (getD (a .s .now) (l .i) 0) (p .2)), power-bound (l .i + 1) 4 (omega arith))
+    let loop = c .before .before in
+    let start = loop .before in
+    let a = start .args in
+    let l = loop .loop in
+    let p = start .pre in
+    omega (
+      arith,
+      digit-bound (l .n) (a .base) (l .i) (getD (a .s .now) (l .i) 0 % a .base) (l .inv .1) (p .3)
+          (mod-lt (getD (a .s .now) (l .i) 0) (p .2)),
+      power-bound (l .i + 1) 4 (omega arith),
+    )
 
 add-i : tie.Need-add-i Inv-loop μ-loop
 add-i c = omega arith
@@ -45,10 +52,16 @@ loop-less c = omega arith
 
 loop-again : tie.Need-loop-again Inv-loop μ-loop
 loop-again c =
-    let a = c .before .before .before .args in
-    let l = c .before .before .loop in
-    let p = c .before .before .before .pre in
-    (omega arith, digit-bound (l .n) (a .base) (l .i) (getD (a .s .now) (l .i) 0 % a .base) (l .inv .1) (p .3) (mod-lt (getD (a .s .now) (l .i) 0) (p .2)), l .inv .2 ∙ number-step (a .base) (l .n) (a .s .now) (l .i) (omega arith))
+    let loop = c .before .before in
+    let start = loop .before in
+    let a = start .args in
+    let l = loop .loop in
+    let p = start .pre in (
+      omega arith,
+      digit-bound (l .n) (a .base) (l .i) (getD (a .s .now) (l .i) 0 % a .base) (l .inv .1) (p .3)
+          (mod-lt (getD (a .s .now) (l .i) 0) (p .2)),
+      l .inv .2 ∙ number-step (a .base) (l .n) (a .s .now) (l .i) (omega arith),
+    )
 
 returns : tie.Need-returns Inv-loop μ-loop
 returns c =

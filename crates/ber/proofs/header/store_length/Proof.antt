@@ -40,13 +40,28 @@ add-store-digits : tie.Need-add-store-digits
 add-store-digits c = search needs
 
 store-digits-requires : tie.Need-store-digits-requires
-store-digits-requires c κs = (omega (arith, length-count-within (c .before .before .before .before .args .n), c .before .length-count .ensures), omega (arith, length-long-size (c .before .before .before .before .args .n) (omega arith), length-set (c .before .before .before .before .args .out .now) (c .before .before .before .before .args .at) (0x80 + c .before .length-count .result)))
+store-digits-requires c κs =
+    let length-count = c .before in
+    let start = length-count .before .before .before in (
+      omega (arith, length-count-within (start .args .n), length-count .length-count .ensures),
+      omega
+          (arith, length-long-size (start .args .n) (omega arith), length-set (start .args .out .now) (start .args .at) (0x80 + length-count .length-count .result)),
+    )
 
 same-length-2 : tie.Need-same-length-2
-same-length-2 c = stored-kept (stored-cons {o = c .before .before .before .before .before .before .before .args .out .now} {b = 0x80 + c .before .before .before .before .length-count .result} (c .before .before .store-digits .ensures))
+same-length-2 c =
+    let store-digits = c .before .before in
+    let length-count = store-digits .before .before in
+    let start = length-count .before .before .before in
+    stored-kept (stored-cons {o = start .args .out .now} {b = 0x80 + length-count .length-count .result} (store-digits .store-digits .ensures))
 
 returns-2 : tie.Need-returns-2
-returns-2 c = stored-as (length-digits (c .before .before .before .before .before .before .before .args .n) (c .before .before .before .before .length-count .result) (omega arith) (c .before .before .before .before .length-count .ensures)) (stored-cons (c .before .before .store-digits .ensures))
+returns-2 c =
+    let store-digits = c .before .before in
+    let length-count = store-digits .before .before in
+    let start = length-count .before .before .before in
+    stored-as (length-digits (start .args .n) (length-count .length-count .result) (omega arith) (length-count .length-count .ensures))
+    (stored-cons (store-digits .store-digits .ensures))
 
 pub store-length-spec : {M : Type 1} → statement M
 store-length-spec =

@@ -14,19 +14,29 @@ is-shortest-requires : tie.Need-is-shortest-requires
 is-shortest-requires c κs = search needs
 
 shared-slice-read-sign-of : tie.Need-shared-slice-read-sign-of
-shared-slice-read-sign-of c = omega (arith, shortest-some (c .before .before .before .before .before .args .c .now) (sym (c .before .before .is-shortest .ensures) ∙ c .before .if2 .taken))
+shared-slice-read-sign-of c =
+    let if2 = c .before in
+    let is-shortest = if2 .before in
+    let start = is-shortest .before .before .before in
+    omega (arith, shortest-some (start .args .c .now) (sym (is-shortest .is-shortest .ensures) ∙ if2 .if2 .taken))
 
 sign-of-requires : tie.Need-sign-of-requires
 sign-of-requires c κs = search needs
 
 number-requires : tie.Need-number-requires
-number-requires c κs = (omega (arith, sign-bound (getD (c .before .before .before .before .before .before .args .c .now) 0 0), c .sign-of .ensures), omega arith, omega arith, omega arith)
+number-requires c κs =
+    let start = c .before .before .before .before .before .before in
+    (omega (arith, sign-bound (getD (start .args .c .now) 0 0), c .sign-of .ensures), omega arith, omega arith, omega arith)
 
 cast-t9 : tie.Need-cast-t9
 cast-t9 c = search needs
 
 returns-2 : tie.Need-returns-2
-returns-2 c = integer-read _ _ _ (omega arith) (sym (c .before .before .before .before .is-shortest .ensures) ∙ c .before .before .before .if2 .taken) (c .before .sign-of .ensures) (c .number .ensures)
+returns-2 c =
+    let sign-of = c .before in
+    let if2 = sign-of .before .before in
+    let is-shortest = if2 .before in
+    integer-read _ _ _ (omega arith) (sym (is-shortest .is-shortest .ensures) ∙ if2 .if2 .taken) (sign-of .sign-of .ensures) (c .number .ensures)
 
 returns-3 : tie.Need-returns-3
 returns-3 c = integer-not-short _ (sym (c .before .is-shortest .ensures) ∙ c .if2 .left)

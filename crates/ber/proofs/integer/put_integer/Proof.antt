@@ -15,20 +15,37 @@ has-room-requires : tie.Need-has-room-requires
 has-room-requires c κs = search needs
 
 store-digits-requires : tie.Need-store-digits-requires
-store-digits-requires c κs = (omega (arith, count-within (c .before .before .before .before .before .args .w), c .before .before .before .integer-octets .ensures), leb-true _ _ (sym (c .before .before .has-room .ensures) ∙ c .before .if1 .taken))
+store-digits-requires c κs =
+    let if1 = c .before in
+    let has-room = if1 .before in
+    let integer-octets = has-room .before in
+    let start = integer-octets .before .before in (
+      omega (arith, count-within (start .args .w), integer-octets .integer-octets .ensures),
+      leb-true _ _
+          (sym (has-room .has-room .ensures) ∙ if1 .if1 .taken),
+    )
 
 same-length : tie.Need-same-length
 same-length c = search needs
 
 returns : tie.Need-returns
 returns c =
-    let w = c .before .before .before .before .before .before .before .before .args .w in
-    let n = c .before .before .before .before .before .before .integer-octets in
-    let e = sym (c .before .before .before .before .before .has-room .ensures) ∙ c .before .before .before .before .if1 .taken in
-    stored-put _ _ _ (omega (arith, leb-true, integer-length w)) (stored-as (integer-digits w (n .result) (n .ensures)) (c .before .before .store-digits .ensures))
+    let store-digits = c .before .before in
+    let if1 = store-digits .before .before in
+    let has-room = if1 .before in
+    let integer-octets = has-room .before in
+    let start = integer-octets .before .before in
+    let w = start .args .w in
+    let n = integer-octets .integer-octets in
+    let e = sym (has-room .has-room .ensures) ∙ if1 .if1 .taken in
+    stored-put _ _ _ (omega (arith, leb-true, integer-length w))
+    (stored-as (integer-digits w (n .result) (n .ensures)) (store-digits .store-digits .ensures))
 
 returns-2 : tie.Need-returns-2
-returns-2 c = let e = sym (c .before .has-room .ensures) ∙ c .if1 .left in put-not _ _ _ (omega (arith, leb-false, integer-length (c .before .before .before .before .args .w)))
+returns-2 c =
+    let has-room = c .before in
+    let start = has-room .before .before .before in
+    let e = sym (has-room .has-room .ensures) ∙ c .if1 .left in put-not _ _ _ (omega (arith, leb-false, integer-length (start .args .w)))
 
 pub put-integer-spec : {M : Type 1} → statement M
 put-integer-spec =

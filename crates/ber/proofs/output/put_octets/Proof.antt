@@ -18,8 +18,11 @@ same-length c = search needs
 
 returns : tie.Need-returns
 returns c =
-    let e = sym (c .before .before .before .before .before .has-room .ensures) ∙ c .before .before .before .before .if1 .taken in
-    stored-put _ _ _ (omega (arith, leb-true)) (c .before .before .store-octets .ensures)
+    let store-octets = c .before .before in
+    let if1 = store-octets .before .before in
+    let has-room = if1 .before in
+    let e = sym (has-room .has-room .ensures) ∙ if1 .if1 .taken in
+    stored-put _ _ _ (omega (arith, leb-true)) (store-octets .store-octets .ensures)
 
 returns-2 : tie.Need-returns-2
 returns-2 c = let e = sym (c .before .has-room .ensures) ∙ c .if1 .left in put-not _ _ _ (omega (arith, leb-false))

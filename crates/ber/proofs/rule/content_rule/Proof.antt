@@ -16,14 +16,18 @@ is-shortest-requires c κs = search needs
 
 returns-2 : tie.Need-returns-2
 unfolding contentRule
-returns-2 c = c .is-shortest .ensures ∙ content-of (c .before .before .before .before .args .id) 0x02 (c .before .before .before .before .args .c .now) (omega arith)
+returns-2 c =
+    let start = c .before .before .before .before in
+    c .is-shortest .ensures ∙ content-of (start .args .id) 0x02 (start .args .c .now) (omega arith)
 
 is-shortest-requires-2 : tie.Need-is-shortest-requires-2
 is-shortest-requires-2 c κs = search needs
 
 returns-3 : tie.Need-returns-3
 unfolding contentRule
-returns-3 c = c .is-shortest2 .ensures ∙ content-of (c .before .before .before .before .before .args .id) 0x0A (c .before .before .before .before .before .args .c .now) (omega arith)
+returns-3 c =
+    let start = c .before .before .before .before .before in
+    c .is-shortest2 .ensures ∙ content-of (start .args .id) 0x0A (start .args .c .now) (omega arith)
 
 returns-4 : tie.Need-returns-4
 unfolding contentRule

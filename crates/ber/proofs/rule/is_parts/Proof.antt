@@ -26,9 +26,12 @@ shared-slice-read-if2 c = omega arith
 
 returns : tie.Need-returns Inv-loop μ-loop
 returns c =
-    let s = c .before .before .before .before .before .args .c .now in
-    let l = c .before .before .before .before .loop in
-    sym (l .inv .1 ∙ ap (λ (t : Bool). parts t (drop (l .i) s)) (c .before .before .if1 .taken) ∙ parts-bad s (l .i) (omega arith) (c .if2 .taken))
+    let if1 = c .before .before in
+    let loop = if1 .before .before in
+    let start = loop .before in
+    let s = start .args .c .now in
+    let l = loop .loop in
+    sym (l .inv .1 ∙ ap (λ (t : Bool). parts t (drop (l .i) s)) (if1 .if1 .taken) ∙ parts-bad s (l .i) (omega arith) (c .if2 .taken))
 
 shared-slice-read-start : tie.Need-shared-slice-read-start Inv-loop μ-loop
 shared-slice-read-start c = omega arith
@@ -41,11 +44,14 @@ loop-less c = omega arith
 
 loop-again : tie.Need-loop-again Inv-loop μ-loop
 loop-again c =
-    let s = c .before .before .before .before .args .c .now in
-    let l = c .before .before .before .loop in (
+    let if1 = c .before in
+    let loop = if1 .before .before in
+    let start = loop .before in
+    let s = start .args .c .now in
+    let l = loop .loop in (
       omega arith,
       l .inv .1 ∙ parts-next (l .start) s (l .i) (omega arith)
-          (⊎-elim (λ w. and-false-right (l .start) _ (ne-eqb _ _ (w .2 .left))) (λ w. and-false-left (l .start) _ (w .left)) (c .before .if1 .came)),
+          (⊎-elim (λ w. and-false-right (l .start) _ (ne-eqb _ _ (w .2 .left))) (λ w. and-false-left (l .start) _ (w .left)) (if1 .if1 .came)),
     )
 
 returns-2 : tie.Need-returns-2 Inv-loop μ-loop

@@ -20,9 +20,11 @@ blank-requires c κs = search needs
 
 returns-2 : tie.Need-returns-2
 returns-2 c =
-    let a = c .before .before .before in
+    let if2 = c .before in
+    let distinct = if2 .before in
+    let a = distinct .before in
     let s = a .before .before .args .self in
-    let once = sym (c .before .before .distinct .ensures) ∙ c .before .if2 .taken in
+    let once = sym (distinct .distinct .ensures) ∙ if2 .if2 .taken in
     side-answer s _ (search (needs, unmapped)) (simp (le-leb _ _ (a .if1 .left), once, c .blank .ensures))
 
 returns-3 : tie.Need-returns-3

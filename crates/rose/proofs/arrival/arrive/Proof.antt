@@ -50,32 +50,72 @@ enum-known-id-5 : tie.Need-enum-known-id-5
 enum-known-id-5 c = search needs
 
 arrive-reject-requires : tie.Need-arrive-reject-requires
-arrive-reject-requires c κs = reject-bounds ((c .before .before .before .before .before .before .args .x) .now) (c .before .before .before .parse .result) (c .before .id5 .given .0 .0) (c .before .id5 .given .0 .1 .0) (c .before .id5 .given .0 .1 .1 .0) (c .before .before .before .parse .ensures) (cc)
+arrive-reject-requires c κs =
+    let id5 = c .before in
+    let parse = id5 .before .before in
+    let start = parse .before .before .before in
+    reject-bounds (start .args .x .now) (parse .parse .result) (id5 .id5 .given .0 .0) (id5 .id5 .given .0 .1 .0) (id5 .id5 .given .0 .1 .1 .0)
+    (parse .parse .ensures) (cc)
 
 returns : tie.Need-returns
-returns c = arrives-wrong ((c .before .before .before .before .before .before .args .table) .now) (c .before .before .before .before .before .before .args .state) ((c .before .before .before .before .before .before .args .x) .now) (c .before .before .before .parse .result) (c .before .before .before .parse .ensures) BadlyStructured (cc) _ 2 Absent (on-structure ((c .before .before .before .before .before .before .args .table) .now) (c .before .before .before .before .before .before .args .state) ((c .before .before .before .before .before .before .args .x) .now)) (c .arrive-wrong .ensures)
+returns c =
+    let parse = c .before .before .before in
+    let start = parse .before .before .before in
+    arrives-wrong (start .args .table .now) (start .args .state) (start .args .x .now) (parse .parse .result) (parse .parse .ensures) BadlyStructured
+    (cc) _ 2 Absent (on-structure (start .args .table .now) (start .args .state) (start .args .x .now)) (c .arrive-wrong .ensures)
 
 returns-2 : tie.Need-returns-2
-returns-2 c = arrives-wrong ((c .before .before .before .before .before .before .args .table) .now) (c .before .before .before .before .before .before .args .state) ((c .before .before .before .before .before .before .args .x) .now) (c .before .before .before .parse .result) (c .before .before .before .parse .ensures) Unrecognized (cc) _ 0 Absent (on-kind ((c .before .before .before .before .before .before .args .table) .now) (c .before .before .before .before .before .before .args .state) ((c .before .before .before .before .before .before .args .x) .now)) (c .arrive-wrong2 .ensures)
+returns-2 c =
+    let parse = c .before .before .before in
+    let start = parse .before .before .before in
+    arrives-wrong (start .args .table .now) (start .args .state) (start .args .x .now) (parse .parse .result) (parse .parse .ensures) Unrecognized
+    (cc) _ 0 Absent (on-kind (start .args .table .now) (start .args .state) (start .args .x .now)) (c .arrive-wrong2 .ensures)
 
 returns-3 : tie.Need-returns-3
-returns-3 c = arrives-wrong ((c .before .before .before .before .before .before .before .args .table) .now) (c .before .before .before .before .before .before .before .args .state) ((c .before .before .before .before .before .before .before .args .x) .now) (c .before .before .before .before .parse .result) (c .before .before .before .before .parse .ensures) (Mistyped (c .before .before .id .given .0 .0)) (cc) _ 1 (c .before .before .id .given .0 .0) (on-fields ((c .before .before .before .before .before .before .before .args .table) .now) (c .before .before .before .before .before .before .before .args .state) ((c .before .before .before .before .before .before .before .args .x) .now) (c .before .before .id .given .0 .0)) (c .arrive-wrong3 .ensures)
+returns-3 c =
+    let id = c .before .before in
+    let parse = id .before .before in
+    let start = parse .before .before .before in
+    arrives-wrong (start .args .table .now) (start .args .state) (start .args .x .now) (parse .parse .result) (parse .parse .ensures)
+    (Mistyped (id .id .given .0 .0)) (cc) _ 1 (id .id .given .0 .0)
+    (on-fields (start .args .table .now) (start .args .state) (start .args .x .now) (id .id .given .0 .0)) (c .arrive-wrong3 .ensures)
 
 returns-4 : tie.Need-returns-4
 unfolding readParsed
-returns-4 c = arrives-as ((c .before .before .before .before .before .before .before .args .table) .now) (c .before .before .before .before .before .before .before .args .state) ((c .before .before .before .before .before .before .before .args .x) .now) (c .before .before .before .before .parse .result) (c .before .before .before .before .parse .ensures) (Invoke (c .before .before .id2 .given .0 .0) (c .before .before .id2 .given .0 .1 .0) (c .before .before .id2 .given .0 .1 .1 .0) (c .before .before .id2 .given .0 .1 .1 .1 .0)) (cc) _ (c .arrive-invoke .ensures)
+returns-4 c =
+    let id2 = c .before .before in
+    let parse = id2 .before .before in
+    let start = parse .before .before .before in
+    arrives-as (start .args .table .now) (start .args .state) (start .args .x .now) (parse .parse .result) (parse .parse .ensures)
+    (Invoke (id2 .id2 .given .0 .0) (id2 .id2 .given .0 .1 .0) (id2 .id2 .given .0 .1 .1 .0) (id2 .id2 .given .0 .1 .1 .1 .0)) (cc) _
+    (c .arrive-invoke .ensures)
 
 returns-5 : tie.Need-returns-5
 unfolding readParsed
-returns-5 c = arrives-as ((c .before .before .before .before .before .before .before .args .table) .now) (c .before .before .before .before .before .before .before .args .state) ((c .before .before .before .before .before .before .before .args .x) .now) (c .before .before .before .before .parse .result) (c .before .before .before .before .parse .ensures) (Result (c .before .before .id3 .given .0 .0) (c .before .before .id3 .given .0 .1 .0)) (cc) _ (c .arrive-result .ensures)
+returns-5 c =
+    let id3 = c .before .before in
+    let parse = id3 .before .before in
+    let start = parse .before .before .before in
+    arrives-as (start .args .table .now) (start .args .state) (start .args .x .now) (parse .parse .result) (parse .parse .ensures)
+    (Result (id3 .id3 .given .0 .0) (id3 .id3 .given .0 .1 .0)) (cc) _ (c .arrive-result .ensures)
 
 returns-6 : tie.Need-returns-6
 unfolding readParsed
-returns-6 c = arrives-as ((c .before .before .before .before .before .before .before .args .table) .now) (c .before .before .before .before .before .before .before .args .state) ((c .before .before .before .before .before .before .before .args .x) .now) (c .before .before .before .before .parse .result) (c .before .before .before .before .parse .ensures) (Error (c .before .before .id4 .given .0 .0) (c .before .before .id4 .given .0 .1 .0) (c .before .before .id4 .given .0 .1 .1 .0)) (cc) _ (c .arrive-error .ensures)
+returns-6 c =
+    let id4 = c .before .before in
+    let parse = id4 .before .before in
+    let start = parse .before .before .before in
+    arrives-as (start .args .table .now) (start .args .state) (start .args .x .now) (parse .parse .result) (parse .parse .ensures)
+    (Error (id4 .id4 .given .0 .0) (id4 .id4 .given .0 .1 .0) (id4 .id4 .given .0 .1 .1 .0)) (cc) _ (c .arrive-error .ensures)
 
 returns-7 : tie.Need-returns-7
 unfolding readParsed
-returns-7 c = arrives-as ((c .before .before .before .before .before .before .before .args .table) .now) (c .before .before .before .before .before .before .before .args .state) ((c .before .before .before .before .before .before .before .args .x) .now) (c .before .before .before .before .parse .result) (c .before .before .before .before .parse .ensures) (Reject (c .before .before .id5 .given .0 .0) (c .before .before .id5 .given .0 .1 .0) (c .before .before .id5 .given .0 .1 .1 .0)) (cc) _ (c .arrive-reject .ensures)
+returns-7 c =
+    let id5 = c .before .before in
+    let parse = id5 .before .before in
+    let start = parse .before .before .before in
+    arrives-as (start .args .table .now) (start .args .state) (start .args .x .now) (parse .parse .result) (parse .parse .ensures)
+    (Reject (id5 .id5 .given .0 .0) (id5 .id5 .given .0 .1 .0) (id5 .id5 .given .0 .1 .1 .0)) (cc) _ (c .arrive-reject .ensures)
 
 pub arrive-spec : {M : Type 1} → statement M
 arrive-spec = tie.close (tie.spec parse-requires enum-told arrive-wrong-requires enum-told-2 arrive-wrong-requires-2 enum-known-id arrive-wrong-requires-3 enum-known-id-2 arrive-invoke-requires enum-known-id-3 arrive-result-requires enum-known-id-4 arrive-error-requires enum-known-id-5 arrive-reject-requires returns returns-2 returns-3 returns-4 returns-5 returns-6 returns-7)

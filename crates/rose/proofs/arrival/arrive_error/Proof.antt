@@ -29,10 +29,24 @@ indicated-requires : tie.Need-indicated-requires
 indicated-requires c κs = search needs
 
 returns : tie.Need-returns
-returns c = error-refused ((c .before .before .before .before .before .before .before .args .table) .now) (c .before .before .before .before .before .before .before .args .state) ((c .before .before .before .before .before .before .before .args .x) .now) (c .before .before .before .before .before .before .before .args .id) (c .before .before .before .before .before .before .before .args .field) (c .before .before .before .before .before .before .before .args .value) (c .before .before .before .before .check-error .result) (c .before .before .before .before .check-error .ensures) _ (c .before .before .why .given .0 .0) (cc) (c .refused .ensures)
+returns c =
+    let why = c .before .before in
+    let check-error = why .before .before in
+    let start = check-error .before .before .before in
+    error-refused (start .args .table .now) (start .args .state) (start .args .x .now) (start .args .id) (start .args .field) (start .args .value)
+    (check-error .check-error .result) (check-error .check-error .ensures) _ (why .why .given .0 .0) (cc) (c .refused .ensures)
 
 returns-2 : tie.Need-returns-2
-returns-2 c = error-indicated ((c .before .before .before .before .before .before .before .before .before .args .table) .now) (c .before .before .before .before .before .before .before .before .before .args .state) ((c .before .before .before .before .before .before .before .before .before .args .x) .now) (c .before .before .before .before .before .before .before .before .before .args .id) (c .before .before .before .before .before .before .before .before .before .args .field) (c .before .before .before .before .before .before .before .before .before .args .value) (c .before .before .before .before .before .before .check-error .result) (c .before .before .before .before .before .before .check-error .ensures) _ (cc) (c .before .before .before .own-code .result) (c .before .before .before .own-code .ensures) (c .before .field-code .result) (c .before .field-code .ensures) (c .before .before .retire-own .result) (c .before .before .retire-own .ensures) (c .indicated .ensures)
+returns-2 c =
+    let field-code = c .before in
+    let retire-own = field-code .before in
+    let own-code = retire-own .before in
+    let check-error = own-code .before .before .before in
+    let start = check-error .before .before .before in
+    error-indicated (start .args .table .now) (start .args .state) (start .args .x .now) (start .args .id) (start .args .field) (start .args .value)
+    (check-error .check-error .result) (check-error .check-error .ensures) _ (cc) (own-code .own-code .result) (own-code .own-code .ensures)
+    (field-code .field-code .result) (field-code .field-code .ensures) (retire-own .retire-own .result) (retire-own .retire-own .ensures)
+    (c .indicated .ensures)
 
 pub arrive-error-spec : {M : Type 1} → statement M
 arrive-error-spec = tie.close (tie.spec check-error-requires enum-known-why refused-requires enum-told own-code-requires retire-own-requires field-code-requires indicated-requires returns returns-2)

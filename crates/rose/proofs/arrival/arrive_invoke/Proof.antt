@@ -31,13 +31,28 @@ indicated-requires : tie.Need-indicated-requires
 indicated-requires c κs = search needs
 
 returns : tie.Need-returns
-returns c = invoke-refused ((c .before .before .before .before .before .before .before .args .table) .now) (c .before .before .before .before .before .before .before .args .state) ((c .before .before .before .before .before .before .before .args .x) .now) (c .before .before .before .before .before .before .before .args .id) (c .before .before .before .before .before .before .before .args .linked) (c .before .before .before .before .before .before .before .args .field) (c .before .before .before .before .before .before .before .args .value) (c .before .before .before .before .check-invoke .result) (c .before .before .before .before .check-invoke .ensures) _ (c .before .before .why .given .0 .0) (cc) (c .refused .ensures)
+returns c =
+    let why = c .before .before in
+    let check-invoke = why .before .before in
+    let start = check-invoke .before .before .before in
+    invoke-refused (start .args .table .now) (start .args .state) (start .args .x .now) (start .args .id) (start .args .linked) (start .args .field)
+    (start .args .value) (check-invoke .check-invoke .result) (check-invoke .check-invoke .ensures) _ (why .why .given .0 .0) (cc)
+    (c .refused .ensures)
 
 passed : (a : tie.After-enum-told) → a .before .before .check-invoke .result ≡ Passes
 passed a = cc
 
 returns-2 : tie.Need-returns-2
-returns-2 c = invoke-indicated ((c .before .before .before .before .before .before .before .before .before .args .table) .now) (c .before .before .before .before .before .before .before .before .before .args .state) ((c .before .before .before .before .before .before .before .before .before .args .x) .now) (c .before .before .before .before .before .before .before .before .before .args .id) (c .before .before .before .before .before .before .before .before .before .args .linked) (c .before .before .before .before .before .before .before .before .before .args .field) (c .before .before .before .before .before .before .before .before .before .args .value) (c .before .before .before .before .before .before .check-invoke .result) (c .before .before .before .before .before .before .check-invoke .ensures) _ (passed (c .before .before .before .before)) (c .before .before .before .field-code .result) (c .before .before .before .field-code .ensures) (c .before .own-link .result) (c .before .own-link .ensures) (c .before .before .with-peer .result) (c .before .before .with-peer .ensures) (c .indicated .ensures)
+returns-2 c =
+    let own-link = c .before in
+    let with-peer = own-link .before in
+    let field-code = with-peer .before in
+    let check-invoke = field-code .before .before .before in
+    let start = check-invoke .before .before .before in
+    invoke-indicated (start .args .table .now) (start .args .state) (start .args .x .now) (start .args .id) (start .args .linked) (start .args .field)
+    (start .args .value) (check-invoke .check-invoke .result) (check-invoke .check-invoke .ensures) _ (passed (field-code .before))
+    (field-code .field-code .result) (field-code .field-code .ensures) (own-link .own-link .result) (own-link .own-link .ensures)
+    (with-peer .with-peer .result) (with-peer .with-peer .ensures) (c .indicated .ensures)
 
 pub arrive-invoke-spec : {M : Type 1} → statement M
 arrive-invoke-spec = tie.close (tie.spec check-invoke-requires enum-known-why refused-requires enum-told field-code-requires with-peer-requires own-link-requires indicated-requires returns returns-2)

@@ -23,16 +23,34 @@ indicated-requires-2 : tie.Need-indicated-requires-2
 indicated-requires-2 c κs = search needs
 
 returns : tie.Need-returns
-returns c = reject-retires ((c .before .before .before .before .before .before .before .before .before .args .table) .now) (c .before .before .before .before .before .before .before .before .before .args .state) ((c .before .before .before .before .before .before .before .before .before .args .x) .now) (c .before .before .before .before .before .before .before .before .before .args .kind) (c .before .before .before .before .before .before .before .before .before .args .number) (c .before .before .before .before .before .before .before .before .before .args .id) (c .before .before .before .before .before .id .given .0 .0) (cc) (c .before .before .before .rejection .result) (c .before .before .before .rejection .ensures ((c .before .before .before .before .before .before .before .before .before .args .x) .now)) _ (c .before .before .if1 .taken) (c .before .retire-own .result) (c .before .retire-own .ensures) (c .indicated2 .ensures)
+returns c =
+    let retire-own = c .before in
+    let if1 = retire-own .before in
+    let rejection = if1 .before in
+    let id = rejection .before .before in
+    let start = id .before .before .before .before in
+    reject-retires (start .args .table .now) (start .args .state) (start .args .x .now) (start .args .kind) (start .args .number) (start .args .id)
+    (id .id .given .0 .0) (cc) (rejection .rejection .result) (rejection .rejection .ensures (start .args .x .now)) _ (if1 .if1 .taken)
+    (retire-own .retire-own .result) (retire-own .retire-own .ensures) (c .indicated2 .ensures)
 
 indicated-requires-3 : tie.Need-indicated-requires-3
 indicated-requires-3 c κs = search needs
 
 returns-2 : tie.Need-returns-2
-returns-2 c = reject-absent ((c .before .before .before .before .before .args .table) .now) (c .before .before .before .before .before .args .state) ((c .before .before .before .before .before .args .x) .now) (c .before .before .before .before .before .args .kind) (c .before .before .before .before .before .args .number) (c .before .before .before .before .before .args .id) (cc) _ (c .indicated .ensures)
+returns-2 c =
+    let start = c .before .before .before .before .before in
+    reject-absent (start .args .table .now) (start .args .state) (start .args .x .now) (start .args .kind) (start .args .number) (start .args .id)
+    (cc) _ (c .indicated .ensures)
 
 returns-3 : tie.Need-returns-3
-returns-3 c = reject-leaves ((c .before .before .before .before .before .before .before .before .args .table) .now) (c .before .before .before .before .before .before .before .before .args .state) ((c .before .before .before .before .before .before .before .before .args .x) .now) (c .before .before .before .before .before .before .before .before .args .kind) (c .before .before .before .before .before .before .before .before .args .number) (c .before .before .before .before .before .before .before .before .args .id) (c .before .before .before .before .id .given .0 .0) (cc) (c .before .before .rejection .result) (c .before .before .rejection .ensures ((c .before .before .before .before .before .before .before .before .args .x) .now)) _ (c .before .if1 .left) (c .indicated3 .ensures)
+returns-3 c =
+    let if1 = c .before in
+    let rejection = if1 .before in
+    let id = rejection .before .before in
+    let start = id .before .before .before .before in
+    reject-leaves (start .args .table .now) (start .args .state) (start .args .x .now) (start .args .kind) (start .args .number) (start .args .id)
+    (id .id .given .0 .0) (cc) (rejection .rejection .result) (rejection .rejection .ensures (start .args .x .now)) _ (if1 .if1 .left)
+    (c .indicated3 .ensures)
 
 pub arrive-reject-spec : {M : Type 1} → statement M
 arrive-reject-spec =

@@ -26,10 +26,22 @@ indicated-requires : tie.Need-indicated-requires
 indicated-requires c κs = search needs
 
 returns : tie.Need-returns
-returns c = result-refused ((c .before .before .before .before .before .before .before .args .table) .now) (c .before .before .before .before .before .before .before .args .state) ((c .before .before .before .before .before .before .before .args .x) .now) (c .before .before .before .before .before .before .before .args .id) (c .before .before .before .before .before .before .before .args .body) (c .before .before .before .before .check-result .result) (c .before .before .before .before .check-result .ensures) _ (c .before .before .why .given .0 .0) (cc) (c .refused .ensures)
+returns c =
+    let why = c .before .before in
+    let check-result = why .before .before in
+    let start = check-result .before .before .before in
+    result-refused (start .args .table .now) (start .args .state) (start .args .x .now) (start .args .id) (start .args .body)
+    (check-result .check-result .result) (check-result .check-result .ensures) _ (why .why .given .0 .0) (cc) (c .refused .ensures)
 
 returns-2 : tie.Need-returns-2
-returns-2 c = result-indicated ((c .before .before .before .before .before .before .before .before .args .table) .now) (c .before .before .before .before .before .before .before .before .args .state) ((c .before .before .before .before .before .before .before .before .args .x) .now) (c .before .before .before .before .before .before .before .before .args .id) (c .before .before .before .before .before .before .before .before .args .body) (c .before .before .before .before .before .check-result .result) (c .before .before .before .before .before .check-result .ensures) _ (cc) (c .before .before .own-code .result) (c .before .before .own-code .ensures) (c .before .retire-own .result) (c .before .retire-own .ensures) (c .indicated .ensures)
+returns-2 c =
+    let retire-own = c .before in
+    let own-code = retire-own .before in
+    let check-result = own-code .before .before .before in
+    let start = check-result .before .before .before in
+    result-indicated (start .args .table .now) (start .args .state) (start .args .x .now) (start .args .id) (start .args .body)
+    (check-result .check-result .result) (check-result .check-result .ensures) _ (cc) (own-code .own-code .result) (own-code .own-code .ensures)
+    (retire-own .retire-own .result) (retire-own .retire-own .ensures) (c .indicated .ensures)
 
 pub arrive-result-spec : {M : Type 1} → statement M
 arrive-result-spec = tie.close (tie.spec check-result-requires enum-known-why refused-requires enum-told own-code-requires retire-own-requires indicated-requires returns returns-2)

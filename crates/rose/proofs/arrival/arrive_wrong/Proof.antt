@@ -13,13 +13,23 @@ refused-requires : tie.Need-refused-requires
 refused-requires c κs = search needs
 
 returns : tie.Need-returns
-returns c = is-wrong ((c .before .before .before .before .args .x) .now) (c .before .before .before .before .args .state) _ _ _ (c .refused .ensures) (fault-reject ((c .before .before .before .before .args .x) .now) (c .before .before .before .before .args .number) (c .before .before .before .before .args .id) (sym (c .before .before .starts-reject .ensures) ∙ c .before .if1 .taken))
+returns c =
+    let if1 = c .before in
+    let starts-reject = if1 .before in
+    let start = starts-reject .before .before in
+    is-wrong (start .args .x .now) (start .args .state) _ _ _ (c .refused .ensures)
+    (fault-reject (start .args .x .now) (start .args .number) (start .args .id) (sym (starts-reject .starts-reject .ensures) ∙ if1 .if1 .taken))
 
 refused-requires-2 : tie.Need-refused-requires-2
 refused-requires-2 c κs = search needs
 
 returns-2 : tie.Need-returns-2
-returns-2 c = is-wrong ((c .before .before .before .before .args .x) .now) (c .before .before .before .before .args .state) _ _ _ (c .refused2 .ensures) (fault-other ((c .before .before .before .before .args .x) .now) (c .before .before .before .before .args .number) (c .before .before .before .before .args .id) (sym (c .before .before .starts-reject .ensures) ∙ c .before .if1 .left))
+returns-2 c =
+    let if1 = c .before in
+    let starts-reject = if1 .before in
+    let start = starts-reject .before .before in
+    is-wrong (start .args .x .now) (start .args .state) _ _ _ (c .refused2 .ensures)
+    (fault-other (start .args .x .now) (start .args .number) (start .args .id) (sym (starts-reject .starts-reject .ensures) ∙ if1 .if1 .left))
 
 pub arrive-wrong-spec : {M : Type 1} → statement M
 arrive-wrong-spec =

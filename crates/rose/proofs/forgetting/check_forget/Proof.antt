@@ -23,10 +23,18 @@ check-forget-peer-requires : tie.Need-check-forget-peer-requires
 check-forget-peer-requires c κs = search needs
 
 returns : tie.Need-returns
-returns c = c .check-forget-own .ensures ∙ when-is (λ (q : Invocation). first (laterChecks ((c .before .before .before .before .before .args .table) .now) (c .before .before .before .before .before .args .state) (forgetting q))) (c .before .before .before .before .before .args .invocation) (Own (c .before .before .invocation .given .0 .0)) (cc)
+returns c =
+    let invocation = c .before .before in
+    let start = invocation .before .before .before in
+    c .check-forget-own .ensures ∙ when-is (λ (q : Invocation). first (laterChecks (start .args .table .now) (start .args .state) (forgetting q)))
+    (start .args .invocation) (Own (invocation .invocation .given .0 .0)) (cc)
 
 returns-2 : tie.Need-returns-2
-returns-2 c = c .check-forget-peer .ensures ∙ when-is (λ (q : Invocation). first (laterChecks ((c .before .before .before .before .before .args .table) .now) (c .before .before .before .before .before .args .state) (forgetting q))) (c .before .before .before .before .before .args .invocation) (Peer (c .before .before .invocation2 .given .0 .0)) (cc)
+returns-2 c =
+    let invocation2 = c .before .before in
+    let start = invocation2 .before .before .before in
+    c .check-forget-peer .ensures ∙ when-is (λ (q : Invocation). first (laterChecks (start .args .table .now) (start .args .state) (forgetting q)))
+    (start .args .invocation) (Peer (invocation2 .invocation2 .given .0 .0)) (cc)
 
 pub check-forget-spec : {M : Type 1} → statement M
 check-forget-spec = tie.close (tie.spec enum-known-invocation check-forget-own-requires enum-known-invocation-2 check-forget-peer-requires returns returns-2)

@@ -9,10 +9,16 @@ has-own-requires : tie.Need-has-own-requires
 has-own-requires c κs = search needs
 
 returns : tie.Need-returns
-returns c = forget-own ((c .before .before .before .args .table) .now) (c .before .before .before .args .state) ((c .before .before .before .args .id) .0) (sym (c .before .has-own .ensures) ∙ c .if1 .taken)
+returns c =
+    let has-own = c .before in
+    let start = has-own .before .before in
+    forget-own (start .args .table .now) (start .args .state) (start .args .id .0) (sym (has-own .has-own .ensures) ∙ c .if1 .taken)
 
 returns-2 : tie.Need-returns-2
-returns-2 c = forget-no-own ((c .before .before .before .args .table) .now) (c .before .before .before .args .state) ((c .before .before .before .args .id) .0) (sym (c .before .has-own .ensures) ∙ c .if1 .left)
+returns-2 c =
+    let has-own = c .before in
+    let start = has-own .before .before in
+    forget-no-own (start .args .table .now) (start .args .state) (start .args .id .0) (sym (has-own .has-own .ensures) ∙ c .if1 .left)
 
 pub check-forget-own-spec : {M : Type 1} → statement M
 check-forget-own-spec = tie.close (tie.spec has-own-requires returns returns-2)

@@ -12,7 +12,10 @@ has-peer-requires : tie.Need-has-peer-requires
 has-peer-requires c κs = search needs
 
 returns : tie.Need-returns
-returns c = forget-no-peer ((c .before .before .before .args .table) .now) (c .before .before .before .args .state) ((c .before .before .before .args .id) .0) (said-no (c .before .has-peer .ensures) (c .if1 .taken))
+returns c =
+    let has-peer = c .before in
+    let start = has-peer .before .before in
+    forget-no-peer (start .args .table .now) (start .args .state) (start .args .id .0) (said-no (has-peer .has-peer .ensures) (c .if1 .taken))
 
 peer-code-requires : tie.Need-peer-code-requires
 peer-code-requires c κs = search needs
@@ -27,10 +30,32 @@ is-class-requires : tie.Need-is-class-requires
 is-class-requires c κs = search needs
 
 returns-2 : tie.Need-returns-2
-returns-2 c = forget-class ((c .before .before .before .before .before .before .before .before .args .table) .now) (c .before .before .before .before .before .before .before .before .args .state) ((c .before .before .before .before .before .before .before .before .args .id) .0) (said-yes (c .before .before .before .before .before .before .has-peer .ensures) (c .before .before .before .before .before .if1 .left)) (c .before .before .before .operation-named .result) (c .before .before .before .operation-named .ensures ∙ ap (operationOf ((c .before .before .before .before .before .before .before .before .args .table) .now)) (c .before .before .before .before .peer-code .ensures)) (ap (isClass 1 2) (sym (c .before .before .class .ensures)) ∙ (sym (c .before .is-class .ensures) ∙ c .if2 .taken))
+returns-2 c =
+    let is-class = c .before in
+    let class = is-class .before in
+    let operation-named = class .before in
+    let peer-code = operation-named .before in
+    let if1 = peer-code .before in
+    let has-peer = if1 .before in
+    let start = has-peer .before .before in
+    forget-class (start .args .table .now) (start .args .state) (start .args .id .0) (said-yes (has-peer .has-peer .ensures) (if1 .if1 .left))
+    (operation-named .operation-named .result)
+    (operation-named .operation-named .ensures ∙ ap (operationOf (start .args .table .now)) (peer-code .peer-code .ensures))
+    (ap (isClass 1 2) (sym (class .class .ensures)) ∙ (sym (is-class .is-class .ensures) ∙ c .if2 .taken))
 
 returns-3 : tie.Need-returns-3
-returns-3 c = forget-peer ((c .before .before .before .before .before .before .before .before .args .table) .now) (c .before .before .before .before .before .before .before .before .args .state) ((c .before .before .before .before .before .before .before .before .args .id) .0) (said-yes (c .before .before .before .before .before .before .has-peer .ensures) (c .before .before .before .before .before .if1 .left)) (c .before .before .before .operation-named .result) (c .before .before .before .operation-named .ensures ∙ ap (operationOf ((c .before .before .before .before .before .before .before .before .args .table) .now)) (c .before .before .before .before .peer-code .ensures)) (ap (isClass 1 2) (sym (c .before .before .class .ensures)) ∙ (sym (c .before .is-class .ensures) ∙ c .if2 .left))
+returns-3 c =
+    let is-class = c .before in
+    let class = is-class .before in
+    let operation-named = class .before in
+    let peer-code = operation-named .before in
+    let if1 = peer-code .before in
+    let has-peer = if1 .before in
+    let start = has-peer .before .before in
+    forget-peer (start .args .table .now) (start .args .state) (start .args .id .0) (said-yes (has-peer .has-peer .ensures) (if1 .if1 .left))
+    (operation-named .operation-named .result)
+    (operation-named .operation-named .ensures ∙ ap (operationOf (start .args .table .now)) (peer-code .peer-code .ensures))
+    (ap (isClass 1 2) (sym (class .class .ensures)) ∙ (sym (is-class .is-class .ensures) ∙ c .if2 .left))
 
 pub check-forget-peer-spec : {M : Type 1} → statement M
 check-forget-peer-spec = tie.close (tie.spec has-peer-requires returns peer-code-requires operation-named-requires class-requires is-class-requires returns-2 returns-3)

@@ -18,16 +18,33 @@ is-child-requires : tie.Need-is-child-requires
 is-child-requires c κs = search needs
 
 returns : tie.Need-returns
-returns c = child-right ((c .before .before .before .before .before .before .before .args .table) .now) (c .before .before .before .before .before .before .before .args .state) (c .before .before .before .before .before .before .before .args .id) (c .before .before .before .before .before .before .before .args .linked) (c .before .before .before .before .linked .given .0 .0) (cc) (c .before .before .own-code .result) (c .before .before .own-code .ensures) (c .before .before .before .before .before .before .before .args .code) (sym (c .before .is-child .ensures .in-valid (c .before .before .before .before .before .before .before .pre)) ∙ c .if1 .taken)
+returns c =
+    let is-child = c .before in
+    let own-code = is-child .before in
+    let linked = own-code .before .before in
+    let start = linked .before .before .before in
+    child-right (start .args .table .now) (start .args .state) (start .args .id) (start .args .linked) (linked .linked .given .0 .0) (cc)
+    (own-code .own-code .result) (own-code .own-code .ensures) (start .args .code)
+    (sym (is-child .is-child .ensures .in-valid (start .pre)) ∙ c .if1 .taken)
 
 problem-requires : tie.Need-problem-requires
 problem-requires c κs = search needs
 
 returns-2 : tie.Need-returns-2
-returns-2 c = child-absent ((c .before .before .before .args .table) .now) (c .before .before .before .args .state) (c .before .before .before .args .id) (c .before .before .before .args .linked) (c .before .before .before .args .code) (cc)
+returns-2 c =
+    let start = c .before .before .before in
+    child-absent (start .args .table .now) (start .args .state) (start .args .id) (start .args .linked) (start .args .code) (cc)
 
 returns-3 : tie.Need-returns-3
-returns-3 c = child-unlisted ((c .before .before .before .before .before .before .before .before .args .table) .now) (c .before .before .before .before .before .before .before .before .args .state) (c .before .before .before .before .before .before .before .before .args .id) (c .before .before .before .before .before .before .before .before .args .linked) (c .before .before .before .before .before .linked .given .0 .0) (cc) (c .before .before .before .own-code .result) (c .before .before .before .own-code .ensures) _ (c .before .before .before .before .before .before .before .before .args .code) (sym (c .before .before .is-child .ensures .in-valid (c .before .before .before .before .before .before .before .before .pre)) ∙ c .before .if1 .left) (c .problem .ensures)
+returns-3 c =
+    let if1 = c .before in
+    let is-child = if1 .before in
+    let own-code = is-child .before in
+    let linked = own-code .before .before in
+    let start = linked .before .before .before in
+    child-unlisted (start .args .table .now) (start .args .state) (start .args .id) (start .args .linked) (linked .linked .given .0 .0) (cc)
+    (own-code .own-code .result) (own-code .own-code .ensures) _ (start .args .code)
+    (sym (is-child .is-child .ensures .in-valid (start .pre)) ∙ if1 .if1 .left) (c .problem .ensures)
 
 pub check-child-spec : {M : Type 1} → statement M
 check-child-spec = tie.close (tie.spec enum-told enum-known-linked own-code-requires is-child-requires returns problem-requires returns-2 returns-3)

@@ -15,7 +15,12 @@ problem-requires : tie.Need-problem-requires
 problem-requires c κs = search needs
 
 returns : tie.Need-returns
-returns c = error-unasked ((c .before .before .before .before .before .args .table) .now) (c .before .before .before .before .before .args .state) (c .before .before .before .before .before .args .id) (c .before .before .before .before .before .args .field) (readValue ((c .before .before .before .before .before .args .x) .now) (c .before .before .before .before .before .args .value)) _ (said-no (c .before .before .has-own .ensures) (c .before .if1 .taken)) (c .problem .ensures)
+returns c =
+    let if1 = c .before in
+    let has-own = if1 .before in
+    let start = has-own .before .before .before in
+    error-unasked (start .args .table .now) (start .args .state) (start .args .id) (start .args .field)
+    (readValue (start .args .x .now) (start .args .value)) _ (said-no (has-own .has-own .ensures) (if1 .if1 .taken)) (c .problem .ensures)
 
 own-code-requires : tie.Need-own-code-requires
 own-code-requires c κs = search needs
@@ -33,7 +38,19 @@ problem-requires-2 : tie.Need-problem-requires-2
 problem-requires-2 c κs = search needs
 
 returns-2 : tie.Need-returns-2
-returns-2 c = error-unexpected ((c .before .before .before .before .before .before .before .before .before .before .args .table) .now) (c .before .before .before .before .before .before .before .before .before .before .args .state) (c .before .before .before .before .before .before .before .before .before .before .args .id) (c .before .before .before .before .before .before .before .before .before .before .args .field) (readValue ((c .before .before .before .before .before .before .before .before .before .before .args .x) .now) (c .before .before .before .before .before .before .before .before .before .before .args .value)) (said-yes (c .before .before .before .before .before .before .before .has-own .ensures) (c .before .before .before .before .before .before .if1 .left)) (c .before .before .before .before .before .own-code .result) (c .before .before .before .before .before .own-code .ensures) (c .before .before .before .before .operation-named .result) (c .before .before .before .before .operation-named .ensures) _ (ap (isClass 4 5) (sym (c .before .before .before .class .ensures)) ∙ (sym (c .before .before .is-class .ensures) ∙ c .before .if2 .taken)) (c .problem2 .ensures)
+returns-2 c =
+    let if2 = c .before in
+    let is-class = if2 .before in
+    let class = is-class .before in
+    let operation-named = class .before in
+    let own-code = operation-named .before in
+    let if1 = own-code .before in
+    let has-own = if1 .before in
+    let start = has-own .before .before .before in
+    error-unexpected (start .args .table .now) (start .args .state) (start .args .id) (start .args .field)
+    (readValue (start .args .x .now) (start .args .value)) (said-yes (has-own .has-own .ensures) (if1 .if1 .left)) (own-code .own-code .result)
+    (own-code .own-code .ensures) (operation-named .operation-named .result) (operation-named .operation-named .ensures) _
+    (ap (isClass 4 5) (sym (class .class .ensures)) ∙ (sym (is-class .is-class .ensures) ∙ if2 .if2 .taken)) (c .problem2 .ensures)
 
 field-code-requires : tie.Need-field-code-requires
 field-code-requires c κs = search needs
@@ -48,7 +65,25 @@ problem-requires-3 : tie.Need-problem-requires-3
 problem-requires-3 c κs = search needs
 
 returns-3 : tie.Need-returns-3
-returns-3 c = other-error ((c .before .before .before .before .before .before .before .before .before .before .before .before .before .before .args .table) .now) (c .before .before .before .before .before .before .before .before .before .before .before .before .before .before .args .state) (c .before .before .before .before .before .before .before .before .before .before .before .before .before .before .args .id) (c .before .before .before .before .before .before .before .before .before .before .before .before .before .before .args .field) (readValue ((c .before .before .before .before .before .before .before .before .before .before .before .before .before .before .args .x) .now) (c .before .before .before .before .before .before .before .before .before .before .before .before .before .before .args .value)) (said-yes (c .before .before .before .before .before .before .before .before .before .before .before .has-own .ensures) (c .before .before .before .before .before .before .before .before .before .before .if1 .left)) (c .before .before .before .before .before .before .before .before .before .own-code .result) (c .before .before .before .before .before .before .before .before .before .own-code .ensures) (c .before .before .before .before .before .before .before .before .operation-named .result) (c .before .before .before .before .before .before .before .before .operation-named .ensures) (ap (isClass 4 5) (sym (c .before .before .before .before .before .before .before .class .ensures)) ∙ (sym (c .before .before .before .before .before .before .is-class .ensures) ∙ c .before .before .before .before .before .if2 .left)) (c .before .before .before .before .field-code .result) (c .before .before .before .before .field-code .ensures) (c .before .before .before .error-named .result) (c .before .before .before .error-named .ensures) _ (said-no (c .before .before .is-local .ensures) (c .before .if3 .taken)) (c .problem3 .ensures)
+returns-3 c =
+    let if3 = c .before in
+    let is-local = if3 .before in
+    let error-named = is-local .before in
+    let field-code = error-named .before in
+    let if2 = field-code .before in
+    let is-class = if2 .before in
+    let class = is-class .before in
+    let operation-named = class .before in
+    let own-code = operation-named .before in
+    let if1 = own-code .before in
+    let has-own = if1 .before in
+    let start = has-own .before .before .before in
+    other-error (start .args .table .now) (start .args .state) (start .args .id) (start .args .field)
+    (readValue (start .args .x .now) (start .args .value)) (said-yes (has-own .has-own .ensures) (if1 .if1 .left)) (own-code .own-code .result)
+    (own-code .own-code .ensures) (operation-named .operation-named .result) (operation-named .operation-named .ensures)
+    (ap (isClass 4 5) (sym (class .class .ensures)) ∙ (sym (is-class .is-class .ensures) ∙ if2 .if2 .left)) (field-code .field-code .result)
+    (field-code .field-code .ensures) (error-named .error-named .result) (error-named .error-named .ensures) _
+    (said-no (is-local .is-local .ensures) (if3 .if3 .taken)) (c .problem3 .ensures)
 
 is-known-requires : tie.Need-is-known-requires
 is-known-requires c κs = search needs
@@ -57,7 +92,27 @@ problem-requires-4 : tie.Need-problem-requires-4
 problem-requires-4 c κs = search needs
 
 returns-4 : tie.Need-returns-4
-returns-4 c = unknown-error ((c .before .before .before .before .before .before .before .before .before .before .before .before .before .before .before .before .args .table) .now) (c .before .before .before .before .before .before .before .before .before .before .before .before .before .before .before .before .args .state) (c .before .before .before .before .before .before .before .before .before .before .before .before .before .before .before .before .args .id) (c .before .before .before .before .before .before .before .before .before .before .before .before .before .before .before .before .args .field) (readValue ((c .before .before .before .before .before .before .before .before .before .before .before .before .before .before .before .before .args .x) .now) (c .before .before .before .before .before .before .before .before .before .before .before .before .before .before .before .before .args .value)) (said-yes (c .before .before .before .before .before .before .before .before .before .before .before .before .before .has-own .ensures) (c .before .before .before .before .before .before .before .before .before .before .before .before .if1 .left)) (c .before .before .before .before .before .before .before .before .before .before .before .own-code .result) (c .before .before .before .before .before .before .before .before .before .before .before .own-code .ensures) (c .before .before .before .before .before .before .before .before .before .before .operation-named .result) (c .before .before .before .before .before .before .before .before .before .before .operation-named .ensures) (ap (isClass 4 5) (sym (c .before .before .before .before .before .before .before .before .before .class .ensures)) ∙ (sym (c .before .before .before .before .before .before .before .before .is-class .ensures) ∙ c .before .before .before .before .before .before .before .if2 .left)) (c .before .before .before .before .before .before .field-code .result) (c .before .before .before .before .before .before .field-code .ensures) (c .before .before .before .before .before .error-named .result) (c .before .before .before .before .before .error-named .ensures) (said-yes (c .before .before .before .before .is-local .ensures) (c .before .before .before .if3 .left)) _ (said-no (c .before .before .is-known .ensures) (c .before .if4 .taken)) (c .problem4 .ensures)
+returns-4 c =
+    let if4 = c .before in
+    let is-known = if4 .before in
+    let if3 = is-known .before in
+    let is-local = if3 .before in
+    let error-named = is-local .before in
+    let field-code = error-named .before in
+    let if2 = field-code .before in
+    let is-class = if2 .before in
+    let class = is-class .before in
+    let operation-named = class .before in
+    let own-code = operation-named .before in
+    let if1 = own-code .before in
+    let has-own = if1 .before in
+    let start = has-own .before .before .before in
+    unknown-error (start .args .table .now) (start .args .state) (start .args .id) (start .args .field)
+    (readValue (start .args .x .now) (start .args .value)) (said-yes (has-own .has-own .ensures) (if1 .if1 .left)) (own-code .own-code .result)
+    (own-code .own-code .ensures) (operation-named .operation-named .result) (operation-named .operation-named .ensures)
+    (ap (isClass 4 5) (sym (class .class .ensures)) ∙ (sym (is-class .is-class .ensures) ∙ if2 .if2 .left)) (field-code .field-code .result)
+    (field-code .field-code .ensures) (error-named .error-named .result) (error-named .error-named .ensures)
+    (said-yes (is-local .is-local .ensures) (if3 .if3 .left)) _ (said-no (is-known .is-known .ensures) (if4 .if4 .taken)) (c .problem4 .ensures)
 
 is-paired-requires : tie.Need-is-paired-requires
 is-paired-requires c κs = search needs
@@ -66,7 +121,30 @@ problem-requires-5 : tie.Need-problem-requires-5
 problem-requires-5 c κs = search needs
 
 returns-5 : tie.Need-returns-5
-returns-5 c = unpaired-error ((c .before .before .before .before .before .before .before .before .before .before .before .before .before .before .before .before .before .before .args .table) .now) (c .before .before .before .before .before .before .before .before .before .before .before .before .before .before .before .before .before .before .args .state) (c .before .before .before .before .before .before .before .before .before .before .before .before .before .before .before .before .before .before .args .id) (c .before .before .before .before .before .before .before .before .before .before .before .before .before .before .before .before .before .before .args .field) (readValue ((c .before .before .before .before .before .before .before .before .before .before .before .before .before .before .before .before .before .before .args .x) .now) (c .before .before .before .before .before .before .before .before .before .before .before .before .before .before .before .before .before .before .args .value)) (said-yes (c .before .before .before .before .before .before .before .before .before .before .before .before .before .before .before .has-own .ensures) (c .before .before .before .before .before .before .before .before .before .before .before .before .before .before .if1 .left)) (c .before .before .before .before .before .before .before .before .before .before .before .before .before .own-code .result) (c .before .before .before .before .before .before .before .before .before .before .before .before .before .own-code .ensures) (c .before .before .before .before .before .before .before .before .before .before .before .before .operation-named .result) (c .before .before .before .before .before .before .before .before .before .before .before .before .operation-named .ensures) (ap (isClass 4 5) (sym (c .before .before .before .before .before .before .before .before .before .before .before .class .ensures)) ∙ (sym (c .before .before .before .before .before .before .before .before .before .before .is-class .ensures) ∙ c .before .before .before .before .before .before .before .before .before .if2 .left)) (c .before .before .before .before .before .before .before .before .field-code .result) (c .before .before .before .before .before .before .before .before .field-code .ensures) (c .before .before .before .before .before .before .before .error-named .result) (c .before .before .before .before .before .before .before .error-named .ensures) (said-yes (c .before .before .before .before .before .before .is-local .ensures) (c .before .before .before .before .before .if3 .left)) (said-yes (c .before .before .before .before .is-known .ensures) (c .before .before .before .if4 .left)) _ (said-no (c .before .before .is-paired .ensures .in-valid (c .before .before .before .before .before .before .before .before .before .before .before .before .before .before .before .before .before .before .pre)) (c .before .if5 .taken)) (c .problem5 .ensures)
+returns-5 c =
+    let if5 = c .before in
+    let is-paired = if5 .before in
+    let if4 = is-paired .before in
+    let is-known = if4 .before in
+    let if3 = is-known .before in
+    let is-local = if3 .before in
+    let error-named = is-local .before in
+    let field-code = error-named .before in
+    let if2 = field-code .before in
+    let is-class = if2 .before in
+    let class = is-class .before in
+    let operation-named = class .before in
+    let own-code = operation-named .before in
+    let if1 = own-code .before in
+    let has-own = if1 .before in
+    let start = has-own .before .before .before in
+    unpaired-error (start .args .table .now) (start .args .state) (start .args .id) (start .args .field)
+    (readValue (start .args .x .now) (start .args .value)) (said-yes (has-own .has-own .ensures) (if1 .if1 .left)) (own-code .own-code .result)
+    (own-code .own-code .ensures) (operation-named .operation-named .result) (operation-named .operation-named .ensures)
+    (ap (isClass 4 5) (sym (class .class .ensures)) ∙ (sym (is-class .is-class .ensures) ∙ if2 .if2 .left)) (field-code .field-code .result)
+    (field-code .field-code .ensures) (error-named .error-named .result) (error-named .error-named .ensures)
+    (said-yes (is-local .is-local .ensures) (if3 .if3 .left)) (said-yes (is-known .is-known .ensures) (if4 .if4 .left)) _
+    (said-no (is-paired .is-paired .ensures .in-valid (start .pre)) (if5 .if5 .taken)) (c .problem5 .ensures)
 
 parameter-requires : tie.Need-parameter-requires
 parameter-requires c κs = search needs
@@ -78,10 +156,63 @@ problem-requires-6 : tie.Need-problem-requires-6
 problem-requires-6 c κs = search needs
 
 returns-6 : tie.Need-returns-6
-returns-6 c = wrong-parameter ((c .before .before .before .before .before .before .before .before .before .before .before .before .before .before .before .before .before .before .before .before .before .args .table) .now) (c .before .before .before .before .before .before .before .before .before .before .before .before .before .before .before .before .before .before .before .before .before .args .state) (c .before .before .before .before .before .before .before .before .before .before .before .before .before .before .before .before .before .before .before .before .before .args .id) (c .before .before .before .before .before .before .before .before .before .before .before .before .before .before .before .before .before .before .before .before .before .args .field) (readValue ((c .before .before .before .before .before .before .before .before .before .before .before .before .before .before .before .before .before .before .before .before .before .args .x) .now) (c .before .before .before .before .before .before .before .before .before .before .before .before .before .before .before .before .before .before .before .before .before .args .value)) (said-yes (c .before .before .before .before .before .before .before .before .before .before .before .before .before .before .before .before .before .before .has-own .ensures) (c .before .before .before .before .before .before .before .before .before .before .before .before .before .before .before .before .before .if1 .left)) (c .before .before .before .before .before .before .before .before .before .before .before .before .before .before .before .before .own-code .result) (c .before .before .before .before .before .before .before .before .before .before .before .before .before .before .before .before .own-code .ensures) (c .before .before .before .before .before .before .before .before .before .before .before .before .before .before .before .operation-named .result) (c .before .before .before .before .before .before .before .before .before .before .before .before .before .before .before .operation-named .ensures) (ap (isClass 4 5) (sym (c .before .before .before .before .before .before .before .before .before .before .before .before .before .before .class .ensures)) ∙ (sym (c .before .before .before .before .before .before .before .before .before .before .before .before .before .is-class .ensures) ∙ c .before .before .before .before .before .before .before .before .before .before .before .before .if2 .left)) (c .before .before .before .before .before .before .before .before .before .before .before .field-code .result) (c .before .before .before .before .before .before .before .before .before .before .before .field-code .ensures) (c .before .before .before .before .before .before .before .before .before .before .error-named .result) (c .before .before .before .before .before .before .before .before .before .before .error-named .ensures) (said-yes (c .before .before .before .before .before .before .before .before .before .is-local .ensures) (c .before .before .before .before .before .before .before .before .if3 .left)) (said-yes (c .before .before .before .before .before .before .before .is-known .ensures) (c .before .before .before .before .before .before .if4 .left)) (said-yes (c .before .before .before .before .before .is-paired .ensures .in-valid (c .before .before .before .before .before .before .before .before .before .before .before .before .before .before .before .before .before .before .before .before .before .pre)) (c .before .before .before .before .if5 .left)) (c .before .before .before .parameter .result) (c .before .before .before .parameter .ensures) _ (said-no (c .before .before .is-right .ensures) (c .before .if6 .taken)) (c .problem6 .ensures)
+returns-6 c =
+    let if6 = c .before in
+    let is-right = if6 .before in
+    let parameter = is-right .before in
+    let if5 = parameter .before in
+    let is-paired = if5 .before in
+    let if4 = is-paired .before in
+    let is-known = if4 .before in
+    let if3 = is-known .before in
+    let is-local = if3 .before in
+    let error-named = is-local .before in
+    let field-code = error-named .before in
+    let if2 = field-code .before in
+    let is-class = if2 .before in
+    let class = is-class .before in
+    let operation-named = class .before in
+    let own-code = operation-named .before in
+    let if1 = own-code .before in
+    let has-own = if1 .before in
+    let start = has-own .before .before .before in
+    wrong-parameter (start .args .table .now) (start .args .state) (start .args .id) (start .args .field)
+    (readValue (start .args .x .now) (start .args .value)) (said-yes (has-own .has-own .ensures) (if1 .if1 .left)) (own-code .own-code .result)
+    (own-code .own-code .ensures) (operation-named .operation-named .result) (operation-named .operation-named .ensures)
+    (ap (isClass 4 5) (sym (class .class .ensures)) ∙ (sym (is-class .is-class .ensures) ∙ if2 .if2 .left)) (field-code .field-code .result)
+    (field-code .field-code .ensures) (error-named .error-named .result) (error-named .error-named .ensures)
+    (said-yes (is-local .is-local .ensures) (if3 .if3 .left)) (said-yes (is-known .is-known .ensures) (if4 .if4 .left))
+    (said-yes (is-paired .is-paired .ensures .in-valid (start .pre)) (if5 .if5 .left)) (parameter .parameter .result) (parameter .parameter .ensures)
+    _ (said-no (is-right .is-right .ensures) (if6 .if6 .taken)) (c .problem6 .ensures)
 
 returns-7 : tie.Need-returns-7
-returns-7 c = right-parameter ((c .before .before .before .before .before .before .before .before .before .before .before .before .before .before .before .before .before .before .before .before .args .table) .now) (c .before .before .before .before .before .before .before .before .before .before .before .before .before .before .before .before .before .before .before .before .args .state) (c .before .before .before .before .before .before .before .before .before .before .before .before .before .before .before .before .before .before .before .before .args .id) (c .before .before .before .before .before .before .before .before .before .before .before .before .before .before .before .before .before .before .before .before .args .field) (readValue ((c .before .before .before .before .before .before .before .before .before .before .before .before .before .before .before .before .before .before .before .before .args .x) .now) (c .before .before .before .before .before .before .before .before .before .before .before .before .before .before .before .before .before .before .before .before .args .value)) (said-yes (c .before .before .before .before .before .before .before .before .before .before .before .before .before .before .before .before .before .has-own .ensures) (c .before .before .before .before .before .before .before .before .before .before .before .before .before .before .before .before .if1 .left)) (c .before .before .before .before .before .before .before .before .before .before .before .before .before .before .before .own-code .result) (c .before .before .before .before .before .before .before .before .before .before .before .before .before .before .before .own-code .ensures) (c .before .before .before .before .before .before .before .before .before .before .before .before .before .before .operation-named .result) (c .before .before .before .before .before .before .before .before .before .before .before .before .before .before .operation-named .ensures) (ap (isClass 4 5) (sym (c .before .before .before .before .before .before .before .before .before .before .before .before .before .class .ensures)) ∙ (sym (c .before .before .before .before .before .before .before .before .before .before .before .before .is-class .ensures) ∙ c .before .before .before .before .before .before .before .before .before .before .before .if2 .left)) (c .before .before .before .before .before .before .before .before .before .before .field-code .result) (c .before .before .before .before .before .before .before .before .before .before .field-code .ensures) (c .before .before .before .before .before .before .before .before .before .error-named .result) (c .before .before .before .before .before .before .before .before .before .error-named .ensures) (said-yes (c .before .before .before .before .before .before .before .before .is-local .ensures) (c .before .before .before .before .before .before .before .if3 .left)) (said-yes (c .before .before .before .before .before .before .is-known .ensures) (c .before .before .before .before .before .if4 .left)) (said-yes (c .before .before .before .before .is-paired .ensures .in-valid (c .before .before .before .before .before .before .before .before .before .before .before .before .before .before .before .before .before .before .before .before .pre)) (c .before .before .before .if5 .left)) (c .before .before .parameter .result) (c .before .before .parameter .ensures) (said-yes (c .before .is-right .ensures) (c .if6 .left))
+returns-7 c =
+    let is-right = c .before in
+    let parameter = is-right .before in
+    let if5 = parameter .before in
+    let is-paired = if5 .before in
+    let if4 = is-paired .before in
+    let is-known = if4 .before in
+    let if3 = is-known .before in
+    let is-local = if3 .before in
+    let error-named = is-local .before in
+    let field-code = error-named .before in
+    let if2 = field-code .before in
+    let is-class = if2 .before in
+    let class = is-class .before in
+    let operation-named = class .before in
+    let own-code = operation-named .before in
+    let if1 = own-code .before in
+    let has-own = if1 .before in
+    let start = has-own .before .before .before in
+    right-parameter (start .args .table .now) (start .args .state) (start .args .id) (start .args .field)
+    (readValue (start .args .x .now) (start .args .value)) (said-yes (has-own .has-own .ensures) (if1 .if1 .left)) (own-code .own-code .result)
+    (own-code .own-code .ensures) (operation-named .operation-named .result) (operation-named .operation-named .ensures)
+    (ap (isClass 4 5) (sym (class .class .ensures)) ∙ (sym (is-class .is-class .ensures) ∙ if2 .if2 .left)) (field-code .field-code .result)
+    (field-code .field-code .ensures) (error-named .error-named .result) (error-named .error-named .ensures)
+    (said-yes (is-local .is-local .ensures) (if3 .if3 .left)) (said-yes (is-known .is-known .ensures) (if4 .if4 .left))
+    (said-yes (is-paired .is-paired .ensures .in-valid (start .pre)) (if5 .if5 .left)) (parameter .parameter .result) (parameter .parameter .ensures)
+    (said-yes (is-right .is-right .ensures) (c .if6 .left))
 
 pub check-error-spec : {M : Type 1} → statement M
 check-error-spec = tie.close (tie.spec has-own-requires problem-requires returns own-code-requires operation-named-requires class-requires is-class-requires problem-requires-2 returns-2 field-code-requires error-named-requires is-local-requires problem-requires-3 returns-3 is-known-requires problem-requires-4 returns-4 is-paired-requires problem-requires-5 returns-5 parameter-requires is-right-requires problem-requires-6 returns-6 returns-7)

@@ -14,7 +14,12 @@ problem-requires : tie.Need-problem-requires
 problem-requires c κs = search needs
 
 returns : tie.Need-returns
-returns c = duplicate ((c .before .before .before .before .before .args .table) .now) (c .before .before .before .before .before .args .state) (c .before .before .before .before .before .args .id) (c .before .before .before .before .before .args .linked) (c .before .before .before .before .before .args .field) (readValue ((c .before .before .before .before .before .args .x) .now) (c .before .before .before .before .before .args .value)) _ (sym (c .before .before .has-peer .ensures) ∙ c .before .if1 .taken) (c .problem .ensures)
+returns c =
+    let if1 = c .before in
+    let has-peer = if1 .before in
+    let start = has-peer .before .before .before in
+    duplicate (start .args .table .now) (start .args .state) (start .args .id) (start .args .linked) (start .args .field)
+    (readValue (start .args .x .now) (start .args .value)) _ (sym (has-peer .has-peer .ensures) ∙ if1 .if1 .taken) (c .problem .ensures)
 
 check-parent-requires : tie.Need-check-parent-requires
 check-parent-requires c κs = search needs
@@ -23,7 +28,15 @@ fails-requires : tie.Need-fails-requires
 fails-requires c κs = search needs
 
 returns-2 : tie.Need-returns-2
-returns-2 c = parent-stops ((c .before .before .before .before .before .before .before .args .table) .now) (c .before .before .before .before .before .before .before .args .state) (c .before .before .before .before .before .before .before .args .id) (c .before .before .before .before .before .before .before .args .linked) (c .before .before .before .before .before .before .before .args .field) (readValue ((c .before .before .before .before .before .before .before .args .x) .now) (c .before .before .before .before .before .before .before .args .value)) (sym (c .before .before .before .before .has-peer .ensures) ∙ c .before .before .before .if1 .left) (c .before .before .check-parent .result) (c .before .before .check-parent .ensures) (sym (c .before .fails .ensures) ∙ c .if2 .taken)
+returns-2 c =
+    let fails = c .before in
+    let check-parent = fails .before in
+    let if1 = check-parent .before in
+    let has-peer = if1 .before in
+    let start = has-peer .before .before .before in
+    parent-stops (start .args .table .now) (start .args .state) (start .args .id) (start .args .linked) (start .args .field)
+    (readValue (start .args .x .now) (start .args .value)) (sym (has-peer .has-peer .ensures) ∙ if1 .if1 .left) (check-parent .check-parent .result)
+    (check-parent .check-parent .ensures) (sym (fails .fails .ensures) ∙ c .if2 .taken)
 
 field-code-requires : tie.Need-field-code-requires
 field-code-requires c κs = search needs
@@ -38,7 +51,22 @@ problem-requires-2 : tie.Need-problem-requires-2
 problem-requires-2 c κs = search needs
 
 returns-3 : tie.Need-returns-3
-returns-3 c = other-operation ((c .before .before .before .before .before .before .before .before .before .before .before .before .args .table) .now) (c .before .before .before .before .before .before .before .before .before .before .before .before .args .state) (c .before .before .before .before .before .before .before .before .before .before .before .before .args .id) (c .before .before .before .before .before .before .before .before .before .before .before .before .args .linked) (c .before .before .before .before .before .before .before .before .before .before .before .before .args .field) (readValue ((c .before .before .before .before .before .before .before .before .before .before .before .before .args .x) .now) (c .before .before .before .before .before .before .before .before .before .before .before .before .args .value)) (sym (c .before .before .before .before .before .before .before .before .before .has-peer .ensures) ∙ c .before .before .before .before .before .before .before .before .if1 .left) (c .before .before .before .before .before .before .before .check-parent .result) (c .before .before .before .before .before .before .before .check-parent .ensures) (sym (c .before .before .before .before .before .before .fails .ensures) ∙ c .before .before .before .before .before .if2 .left) (c .before .before .before .before .field-code .result) (c .before .before .before .before .field-code .ensures) (c .before .before .before .operation-named .result) (c .before .before .before .operation-named .ensures) _ (said-no (c .before .before .is-local .ensures) (c .before .if3 .taken)) (c .problem2 .ensures)
+returns-3 c =
+    let if3 = c .before in
+    let is-local = if3 .before in
+    let operation-named = is-local .before in
+    let field-code = operation-named .before in
+    let if2 = field-code .before in
+    let fails = if2 .before in
+    let check-parent = fails .before in
+    let if1 = check-parent .before in
+    let has-peer = if1 .before in
+    let start = has-peer .before .before .before in
+    other-operation (start .args .table .now) (start .args .state) (start .args .id) (start .args .linked) (start .args .field)
+    (readValue (start .args .x .now) (start .args .value)) (sym (has-peer .has-peer .ensures) ∙ if1 .if1 .left) (check-parent .check-parent .result)
+    (check-parent .check-parent .ensures) (sym (fails .fails .ensures) ∙ if2 .if2 .left) (field-code .field-code .result)
+    (field-code .field-code .ensures) (operation-named .operation-named .result) (operation-named .operation-named .ensures) _
+    (said-no (is-local .is-local .ensures) (if3 .if3 .taken)) (c .problem2 .ensures)
 
 is-listed-requires : tie.Need-is-listed-requires
 is-listed-requires c κs = search needs
@@ -47,7 +75,24 @@ problem-requires-3 : tie.Need-problem-requires-3
 problem-requires-3 c κs = search needs
 
 returns-4 : tie.Need-returns-4
-returns-4 c = unlisted-operation ((c .before .before .before .before .before .before .before .before .before .before .before .before .before .before .args .table) .now) (c .before .before .before .before .before .before .before .before .before .before .before .before .before .before .args .state) (c .before .before .before .before .before .before .before .before .before .before .before .before .before .before .args .id) (c .before .before .before .before .before .before .before .before .before .before .before .before .before .before .args .linked) (c .before .before .before .before .before .before .before .before .before .before .before .before .before .before .args .field) (readValue ((c .before .before .before .before .before .before .before .before .before .before .before .before .before .before .args .x) .now) (c .before .before .before .before .before .before .before .before .before .before .before .before .before .before .args .value)) (sym (c .before .before .before .before .before .before .before .before .before .before .before .has-peer .ensures) ∙ c .before .before .before .before .before .before .before .before .before .before .if1 .left) (c .before .before .before .before .before .before .before .before .before .check-parent .result) (c .before .before .before .before .before .before .before .before .before .check-parent .ensures) (sym (c .before .before .before .before .before .before .before .before .fails .ensures) ∙ c .before .before .before .before .before .before .before .if2 .left) (c .before .before .before .before .before .before .field-code .result) (c .before .before .before .before .before .before .field-code .ensures) (c .before .before .before .before .before .operation-named .result) (c .before .before .before .before .before .operation-named .ensures) (said-yes (c .before .before .before .before .is-local .ensures) (c .before .before .before .if3 .left)) _ (said-no (c .before .before .is-listed .ensures) (c .before .if4 .taken)) (c .problem3 .ensures)
+returns-4 c =
+    let if4 = c .before in
+    let is-listed = if4 .before in
+    let if3 = is-listed .before in
+    let is-local = if3 .before in
+    let operation-named = is-local .before in
+    let field-code = operation-named .before in
+    let if2 = field-code .before in
+    let fails = if2 .before in
+    let check-parent = fails .before in
+    let if1 = check-parent .before in
+    let has-peer = if1 .before in
+    let start = has-peer .before .before .before in
+    unlisted-operation (start .args .table .now) (start .args .state) (start .args .id) (start .args .linked) (start .args .field)
+    (readValue (start .args .x .now) (start .args .value)) (sym (has-peer .has-peer .ensures) ∙ if1 .if1 .left) (check-parent .check-parent .result)
+    (check-parent .check-parent .ensures) (sym (fails .fails .ensures) ∙ if2 .if2 .left) (field-code .field-code .result)
+    (field-code .field-code .ensures) (operation-named .operation-named .result) (operation-named .operation-named .ensures)
+    (said-yes (is-local .is-local .ensures) (if3 .if3 .left)) _ (said-no (is-listed .is-listed .ensures) (if4 .if4 .taken)) (c .problem3 .ensures)
 
 argument-requires : tie.Need-argument-requires
 argument-requires c κs = search needs
@@ -59,7 +104,28 @@ problem-requires-4 : tie.Need-problem-requires-4
 problem-requires-4 c κs = search needs
 
 returns-5 : tie.Need-returns-5
-returns-5 c = wrong-argument ((c .before .before .before .before .before .before .before .before .before .before .before .before .before .before .before .before .before .args .table) .now) (c .before .before .before .before .before .before .before .before .before .before .before .before .before .before .before .before .before .args .state) (c .before .before .before .before .before .before .before .before .before .before .before .before .before .before .before .before .before .args .id) (c .before .before .before .before .before .before .before .before .before .before .before .before .before .before .before .before .before .args .linked) (c .before .before .before .before .before .before .before .before .before .before .before .before .before .before .before .before .before .args .field) (readValue ((c .before .before .before .before .before .before .before .before .before .before .before .before .before .before .before .before .before .args .x) .now) (c .before .before .before .before .before .before .before .before .before .before .before .before .before .before .before .before .before .args .value)) (sym (c .before .before .before .before .before .before .before .before .before .before .before .before .before .before .has-peer .ensures) ∙ c .before .before .before .before .before .before .before .before .before .before .before .before .before .if1 .left) (c .before .before .before .before .before .before .before .before .before .before .before .before .check-parent .result) (c .before .before .before .before .before .before .before .before .before .before .before .before .check-parent .ensures) (sym (c .before .before .before .before .before .before .before .before .before .before .before .fails .ensures) ∙ c .before .before .before .before .before .before .before .before .before .before .if2 .left) (c .before .before .before .before .before .before .before .before .before .field-code .result) (c .before .before .before .before .before .before .before .before .before .field-code .ensures) (c .before .before .before .before .before .before .before .before .operation-named .result) (c .before .before .before .before .before .before .before .before .operation-named .ensures) (said-yes (c .before .before .before .before .before .before .before .is-local .ensures) (c .before .before .before .before .before .before .if3 .left)) (said-yes (c .before .before .before .before .before .is-listed .ensures) (c .before .before .before .before .if4 .left)) (c .before .before .before .argument .result) (c .before .before .before .argument .ensures) _ (said-no (c .before .before .is-right .ensures) (c .before .if5 .taken)) (c .problem4 .ensures)
+returns-5 c =
+    let if5 = c .before in
+    let is-right = if5 .before in
+    let argument = is-right .before in
+    let if4 = argument .before in
+    let is-listed = if4 .before in
+    let if3 = is-listed .before in
+    let is-local = if3 .before in
+    let operation-named = is-local .before in
+    let field-code = operation-named .before in
+    let if2 = field-code .before in
+    let fails = if2 .before in
+    let check-parent = fails .before in
+    let if1 = check-parent .before in
+    let has-peer = if1 .before in
+    let start = has-peer .before .before .before in
+    wrong-argument (start .args .table .now) (start .args .state) (start .args .id) (start .args .linked) (start .args .field)
+    (readValue (start .args .x .now) (start .args .value)) (sym (has-peer .has-peer .ensures) ∙ if1 .if1 .left) (check-parent .check-parent .result)
+    (check-parent .check-parent .ensures) (sym (fails .fails .ensures) ∙ if2 .if2 .left) (field-code .field-code .result)
+    (field-code .field-code .ensures) (operation-named .operation-named .result) (operation-named .operation-named .ensures)
+    (said-yes (is-local .is-local .ensures) (if3 .if3 .left)) (said-yes (is-listed .is-listed .ensures) (if4 .if4 .left)) (argument .argument .result)
+    (argument .argument .ensures) _ (said-no (is-right .is-right .ensures) (if5 .if5 .taken)) (c .problem4 .ensures)
 
 check-child-requires : tie.Need-check-child-requires
 check-child-requires c κs = search needs
@@ -68,7 +134,31 @@ fails-requires-2 : tie.Need-fails-requires-2
 fails-requires-2 c κs = search needs
 
 returns-6 : tie.Need-returns-6
-returns-6 c = child-stops ((c .before .before .before .before .before .before .before .before .before .before .before .before .before .before .before .before .before .before .before .args .table) .now) (c .before .before .before .before .before .before .before .before .before .before .before .before .before .before .before .before .before .before .before .args .state) (c .before .before .before .before .before .before .before .before .before .before .before .before .before .before .before .before .before .before .before .args .id) (c .before .before .before .before .before .before .before .before .before .before .before .before .before .before .before .before .before .before .before .args .linked) (c .before .before .before .before .before .before .before .before .before .before .before .before .before .before .before .before .before .before .before .args .field) (readValue ((c .before .before .before .before .before .before .before .before .before .before .before .before .before .before .before .before .before .before .before .args .x) .now) (c .before .before .before .before .before .before .before .before .before .before .before .before .before .before .before .before .before .before .before .args .value)) (sym (c .before .before .before .before .before .before .before .before .before .before .before .before .before .before .before .before .has-peer .ensures) ∙ c .before .before .before .before .before .before .before .before .before .before .before .before .before .before .before .if1 .left) (c .before .before .before .before .before .before .before .before .before .before .before .before .before .before .check-parent .result) (c .before .before .before .before .before .before .before .before .before .before .before .before .before .before .check-parent .ensures) (sym (c .before .before .before .before .before .before .before .before .before .before .before .before .before .fails .ensures) ∙ c .before .before .before .before .before .before .before .before .before .before .before .before .if2 .left) (c .before .before .before .before .before .before .before .before .before .before .before .field-code .result) (c .before .before .before .before .before .before .before .before .before .before .before .field-code .ensures) (c .before .before .before .before .before .before .before .before .before .before .operation-named .result) (c .before .before .before .before .before .before .before .before .before .before .operation-named .ensures) (said-yes (c .before .before .before .before .before .before .before .before .before .is-local .ensures) (c .before .before .before .before .before .before .before .before .if3 .left)) (said-yes (c .before .before .before .before .before .before .before .is-listed .ensures) (c .before .before .before .before .before .before .if4 .left)) (c .before .before .before .before .before .argument .result) (c .before .before .before .before .before .argument .ensures) (said-yes (c .before .before .before .before .is-right .ensures) (c .before .before .before .if5 .left)) (c .before .before .check-child .result) (c .before .before .check-child .ensures) (sym (c .before .fails2 .ensures) ∙ c .if6 .taken)
+returns-6 c =
+    let fails2 = c .before in
+    let check-child = fails2 .before in
+    let if5 = check-child .before in
+    let is-right = if5 .before in
+    let argument = is-right .before in
+    let if4 = argument .before in
+    let is-listed = if4 .before in
+    let if3 = is-listed .before in
+    let is-local = if3 .before in
+    let operation-named = is-local .before in
+    let field-code = operation-named .before in
+    let if2 = field-code .before in
+    let fails = if2 .before in
+    let check-parent = fails .before in
+    let if1 = check-parent .before in
+    let has-peer = if1 .before in
+    let start = has-peer .before .before .before in
+    child-stops (start .args .table .now) (start .args .state) (start .args .id) (start .args .linked) (start .args .field)
+    (readValue (start .args .x .now) (start .args .value)) (sym (has-peer .has-peer .ensures) ∙ if1 .if1 .left) (check-parent .check-parent .result)
+    (check-parent .check-parent .ensures) (sym (fails .fails .ensures) ∙ if2 .if2 .left) (field-code .field-code .result)
+    (field-code .field-code .ensures) (operation-named .operation-named .result) (operation-named .operation-named .ensures)
+    (said-yes (is-local .is-local .ensures) (if3 .if3 .left)) (said-yes (is-listed .is-listed .ensures) (if4 .if4 .left)) (argument .argument .result)
+    (argument .argument .ensures) (said-yes (is-right .is-right .ensures) (if5 .if5 .left)) (check-child .check-child .result)
+    (check-child .check-child .ensures) (sym (fails2 .fails2 .ensures) ∙ c .if6 .taken)
 
 class-requires : tie.Need-class-requires
 class-requires c κs = search needs
@@ -80,10 +170,67 @@ problem-requires-5 : tie.Need-problem-requires-5
 problem-requires-5 c κs = search needs
 
 returns-7 : tie.Need-returns-7
-returns-7 c = no-room ((c .before .before .before .before .before .before .before .before .before .before .before .before .before .before .before .before .before .before .before .before .before .before .before .before .args .table) .now) (c .before .before .before .before .before .before .before .before .before .before .before .before .before .before .before .before .before .before .before .before .before .before .before .before .args .state) (c .before .before .before .before .before .before .before .before .before .before .before .before .before .before .before .before .before .before .before .before .before .before .before .before .args .id) (c .before .before .before .before .before .before .before .before .before .before .before .before .before .before .before .before .before .before .before .before .before .before .before .before .args .linked) (c .before .before .before .before .before .before .before .before .before .before .before .before .before .before .before .before .before .before .before .before .before .before .before .before .args .field) (readValue ((c .before .before .before .before .before .before .before .before .before .before .before .before .before .before .before .before .before .before .before .before .before .before .before .before .args .x) .now) (c .before .before .before .before .before .before .before .before .before .before .before .before .before .before .before .before .before .before .before .before .before .before .before .before .args .value)) (sym (c .before .before .before .before .before .before .before .before .before .before .before .before .before .before .before .before .before .before .before .before .before .has-peer .ensures) ∙ c .before .before .before .before .before .before .before .before .before .before .before .before .before .before .before .before .before .before .before .before .if1 .left) (c .before .before .before .before .before .before .before .before .before .before .before .before .before .before .before .before .before .before .before .check-parent .result) (c .before .before .before .before .before .before .before .before .before .before .before .before .before .before .before .before .before .before .before .check-parent .ensures) (sym (c .before .before .before .before .before .before .before .before .before .before .before .before .before .before .before .before .before .before .fails .ensures) ∙ c .before .before .before .before .before .before .before .before .before .before .before .before .before .before .before .before .before .if2 .left) (c .before .before .before .before .before .before .before .before .before .before .before .before .before .before .before .before .field-code .result) (c .before .before .before .before .before .before .before .before .before .before .before .before .before .before .before .before .field-code .ensures) (c .before .before .before .before .before .before .before .before .before .before .before .before .before .before .before .operation-named .result) (c .before .before .before .before .before .before .before .before .before .before .before .before .before .before .before .operation-named .ensures) (said-yes (c .before .before .before .before .before .before .before .before .before .before .before .before .before .before .is-local .ensures) (c .before .before .before .before .before .before .before .before .before .before .before .before .before .if3 .left)) (said-yes (c .before .before .before .before .before .before .before .before .before .before .before .before .is-listed .ensures) (c .before .before .before .before .before .before .before .before .before .before .before .if4 .left)) (c .before .before .before .before .before .before .before .before .before .before .argument .result) (c .before .before .before .before .before .before .before .before .before .before .argument .ensures) (said-yes (c .before .before .before .before .before .before .before .before .before .is-right .ensures) (c .before .before .before .before .before .before .before .before .if5 .left)) (c .before .before .before .before .before .before .before .check-child .result) (c .before .before .before .before .before .before .before .check-child .ensures) (sym (c .before .before .before .before .before .before .fails2 .ensures) ∙ c .before .before .before .before .before .if6 .left) (c .before .before .before .class .result) (c .before .before .before .class .ensures) _ (sym (c .before .before .lacks-room .ensures) ∙ c .before .if7 .taken) (c .problem5 .ensures)
+returns-7 c =
+    let if7 = c .before in
+    let lacks-room = if7 .before in
+    let class = lacks-room .before in
+    let if6 = class .before .before in
+    let fails2 = if6 .before in
+    let check-child = fails2 .before in
+    let if5 = check-child .before in
+    let is-right = if5 .before in
+    let argument = is-right .before in
+    let if4 = argument .before in
+    let is-listed = if4 .before in
+    let if3 = is-listed .before in
+    let is-local = if3 .before in
+    let operation-named = is-local .before in
+    let field-code = operation-named .before in
+    let if2 = field-code .before in
+    let fails = if2 .before in
+    let check-parent = fails .before in
+    let if1 = check-parent .before in
+    let has-peer = if1 .before in
+    let start = has-peer .before .before .before in
+    no-room (start .args .table .now) (start .args .state) (start .args .id) (start .args .linked) (start .args .field)
+    (readValue (start .args .x .now) (start .args .value)) (sym (has-peer .has-peer .ensures) ∙ if1 .if1 .left) (check-parent .check-parent .result)
+    (check-parent .check-parent .ensures) (sym (fails .fails .ensures) ∙ if2 .if2 .left) (field-code .field-code .result)
+    (field-code .field-code .ensures) (operation-named .operation-named .result) (operation-named .operation-named .ensures)
+    (said-yes (is-local .is-local .ensures) (if3 .if3 .left)) (said-yes (is-listed .is-listed .ensures) (if4 .if4 .left)) (argument .argument .result)
+    (argument .argument .ensures) (said-yes (is-right .is-right .ensures) (if5 .if5 .left)) (check-child .check-child .result)
+    (check-child .check-child .ensures) (sym (fails2 .fails2 .ensures) ∙ if6 .if6 .left) (class .class .result) (class .class .ensures) _
+    (sym (lacks-room .lacks-room .ensures) ∙ if7 .if7 .taken) (c .problem5 .ensures)
 
 returns-8 : tie.Need-returns-8
-returns-8 c = has-room ((c .before .before .before .before .before .before .before .before .before .before .before .before .before .before .before .before .before .before .before .before .before .before .before .args .table) .now) (c .before .before .before .before .before .before .before .before .before .before .before .before .before .before .before .before .before .before .before .before .before .before .before .args .state) (c .before .before .before .before .before .before .before .before .before .before .before .before .before .before .before .before .before .before .before .before .before .before .before .args .id) (c .before .before .before .before .before .before .before .before .before .before .before .before .before .before .before .before .before .before .before .before .before .before .before .args .linked) (c .before .before .before .before .before .before .before .before .before .before .before .before .before .before .before .before .before .before .before .before .before .before .before .args .field) (readValue ((c .before .before .before .before .before .before .before .before .before .before .before .before .before .before .before .before .before .before .before .before .before .before .before .args .x) .now) (c .before .before .before .before .before .before .before .before .before .before .before .before .before .before .before .before .before .before .before .before .before .before .before .args .value)) (sym (c .before .before .before .before .before .before .before .before .before .before .before .before .before .before .before .before .before .before .before .before .has-peer .ensures) ∙ c .before .before .before .before .before .before .before .before .before .before .before .before .before .before .before .before .before .before .before .if1 .left) (c .before .before .before .before .before .before .before .before .before .before .before .before .before .before .before .before .before .before .check-parent .result) (c .before .before .before .before .before .before .before .before .before .before .before .before .before .before .before .before .before .before .check-parent .ensures) (sym (c .before .before .before .before .before .before .before .before .before .before .before .before .before .before .before .before .before .fails .ensures) ∙ c .before .before .before .before .before .before .before .before .before .before .before .before .before .before .before .before .if2 .left) (c .before .before .before .before .before .before .before .before .before .before .before .before .before .before .before .field-code .result) (c .before .before .before .before .before .before .before .before .before .before .before .before .before .before .before .field-code .ensures) (c .before .before .before .before .before .before .before .before .before .before .before .before .before .before .operation-named .result) (c .before .before .before .before .before .before .before .before .before .before .before .before .before .before .operation-named .ensures) (said-yes (c .before .before .before .before .before .before .before .before .before .before .before .before .before .is-local .ensures) (c .before .before .before .before .before .before .before .before .before .before .before .before .if3 .left)) (said-yes (c .before .before .before .before .before .before .before .before .before .before .before .is-listed .ensures) (c .before .before .before .before .before .before .before .before .before .before .if4 .left)) (c .before .before .before .before .before .before .before .before .before .argument .result) (c .before .before .before .before .before .before .before .before .before .argument .ensures) (said-yes (c .before .before .before .before .before .before .before .before .is-right .ensures) (c .before .before .before .before .before .before .before .if5 .left)) (c .before .before .before .before .before .before .check-child .result) (c .before .before .before .before .before .before .check-child .ensures) (sym (c .before .before .before .before .before .fails2 .ensures) ∙ c .before .before .before .before .if6 .left) (c .before .before .class .result) (c .before .before .class .ensures) (sym (c .before .lacks-room .ensures) ∙ c .if7 .left)
+returns-8 c =
+    let lacks-room = c .before in
+    let class = lacks-room .before in
+    let if6 = class .before .before in
+    let fails2 = if6 .before in
+    let check-child = fails2 .before in
+    let if5 = check-child .before in
+    let is-right = if5 .before in
+    let argument = is-right .before in
+    let if4 = argument .before in
+    let is-listed = if4 .before in
+    let if3 = is-listed .before in
+    let is-local = if3 .before in
+    let operation-named = is-local .before in
+    let field-code = operation-named .before in
+    let if2 = field-code .before in
+    let fails = if2 .before in
+    let check-parent = fails .before in
+    let if1 = check-parent .before in
+    let has-peer = if1 .before in
+    let start = has-peer .before .before .before in
+    has-room (start .args .table .now) (start .args .state) (start .args .id) (start .args .linked) (start .args .field)
+    (readValue (start .args .x .now) (start .args .value)) (sym (has-peer .has-peer .ensures) ∙ if1 .if1 .left) (check-parent .check-parent .result)
+    (check-parent .check-parent .ensures) (sym (fails .fails .ensures) ∙ if2 .if2 .left) (field-code .field-code .result)
+    (field-code .field-code .ensures) (operation-named .operation-named .result) (operation-named .operation-named .ensures)
+    (said-yes (is-local .is-local .ensures) (if3 .if3 .left)) (said-yes (is-listed .is-listed .ensures) (if4 .if4 .left)) (argument .argument .result)
+    (argument .argument .ensures) (said-yes (is-right .is-right .ensures) (if5 .if5 .left)) (check-child .check-child .result)
+    (check-child .check-child .ensures) (sym (fails2 .fails2 .ensures) ∙ if6 .if6 .left) (class .class .result) (class .class .ensures)
+    (sym (lacks-room .lacks-room .ensures) ∙ c .if7 .left)
 
 pub check-invoke-spec : {M : Type 1} → statement M
 check-invoke-spec = tie.close (tie.spec has-peer-requires problem-requires returns check-parent-requires fails-requires returns-2 field-code-requires operation-named-requires is-local-requires problem-requires-2 returns-3 is-listed-requires problem-requires-3 returns-4 argument-requires is-right-requires problem-requires-4 returns-5 check-child-requires fails-requires-2 returns-6 class-requires lacks-room-requires problem-requires-5 returns-7 returns-8)

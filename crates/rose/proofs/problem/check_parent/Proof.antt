@@ -18,7 +18,13 @@ problem-requires : tie.Need-problem-requires
 problem-requires c κs = search needs
 
 returns : tie.Need-returns
-returns c = parent-unknown ((c .before .before .before .before .before .before .before .args .table) .now) (c .before .before .before .before .before .before .before .args .state) (c .before .before .before .before .before .before .before .args .id) (c .before .before .before .before .before .before .before .args .linked) (c .before .before .before .before .linked .given .0 .0) (cc) _ (said-no (c .before .before .has-own .ensures) (c .before .if1 .taken)) (c .problem .ensures)
+returns c =
+    let if1 = c .before in
+    let has-own = if1 .before in
+    let linked = has-own .before .before in
+    let start = linked .before .before .before in
+    parent-unknown (start .args .table .now) (start .args .state) (start .args .id) (start .args .linked) (linked .linked .given .0 .0) (cc) _
+    (said-no (has-own .has-own .ensures) (if1 .if1 .taken)) (c .problem .ensures)
 
 own-code-requires : tie.Need-own-code-requires
 own-code-requires c κs = search needs
@@ -30,13 +36,34 @@ problem-requires-2 : tie.Need-problem-requires-2
 problem-requires-2 c κs = search needs
 
 returns-2 : tie.Need-returns-2
-returns-2 c = parent-childless ((c .before .before .before .before .before .before .before .before .before .before .args .table) .now) (c .before .before .before .before .before .before .before .before .before .before .args .state) (c .before .before .before .before .before .before .before .before .before .before .args .id) (c .before .before .before .before .before .before .before .before .before .before .args .linked) (c .before .before .before .before .before .before .before .linked .given .0 .0) (cc) (c .before .before .before .own-code .result) (c .before .before .before .own-code .ensures) _ (said-yes (c .before .before .before .before .before .has-own .ensures) (c .before .before .before .before .if1 .left)) (said-no (c .before .before .has-child .ensures .in-valid (c .before .before .before .before .before .before .before .before .before .before .pre)) (c .before .if2 .taken)) (c .problem2 .ensures)
+returns-2 c =
+    let if2 = c .before in
+    let has-child = if2 .before in
+    let own-code = has-child .before in
+    let if1 = own-code .before in
+    let has-own = if1 .before in
+    let linked = has-own .before .before in
+    let start = linked .before .before .before in
+    parent-childless (start .args .table .now) (start .args .state) (start .args .id) (start .args .linked) (linked .linked .given .0 .0) (cc)
+    (own-code .own-code .result) (own-code .own-code .ensures) _ (said-yes (has-own .has-own .ensures) (if1 .if1 .left))
+    (said-no (has-child .has-child .ensures .in-valid (start .pre)) (if2 .if2 .taken)) (c .problem2 .ensures)
 
 returns-3 : tie.Need-returns-3
-returns-3 c = parent-absent ((c .before .before .before .args .table) .now) (c .before .before .before .args .state) (c .before .before .before .args .id) (c .before .before .before .args .linked) (cc)
+returns-3 c =
+    let start = c .before .before .before in
+    parent-absent (start .args .table .now) (start .args .state) (start .args .id) (start .args .linked) (cc)
 
 returns-4 : tie.Need-returns-4
-returns-4 c = parent-right ((c .before .before .before .before .before .before .before .before .before .args .table) .now) (c .before .before .before .before .before .before .before .before .before .args .state) (c .before .before .before .before .before .before .before .before .before .args .id) (c .before .before .before .before .before .before .before .before .before .args .linked) (c .before .before .before .before .before .before .linked .given .0 .0) (cc) (c .before .before .own-code .result) (c .before .before .own-code .ensures) (said-yes (c .before .before .before .before .has-own .ensures) (c .before .before .before .if1 .left)) (said-yes (c .before .has-child .ensures .in-valid (c .before .before .before .before .before .before .before .before .before .pre)) (c .if2 .left))
+returns-4 c =
+    let has-child = c .before in
+    let own-code = has-child .before in
+    let if1 = own-code .before in
+    let has-own = if1 .before in
+    let linked = has-own .before .before in
+    let start = linked .before .before .before in
+    parent-right (start .args .table .now) (start .args .state) (start .args .id) (start .args .linked) (linked .linked .given .0 .0) (cc)
+    (own-code .own-code .result) (own-code .own-code .ensures) (said-yes (has-own .has-own .ensures) (if1 .if1 .left))
+    (said-yes (has-child .has-child .ensures .in-valid (start .pre)) (c .if2 .left))
 
 pub check-parent-spec : {M : Type 1} → statement M
 check-parent-spec = tie.close (tie.spec enum-told enum-known-linked has-own-requires problem-requires returns own-code-requires has-child-requires problem-requires-2 returns-2 returns-3 returns-4)

@@ -17,7 +17,12 @@ problem-requires : tie.Need-problem-requires
 problem-requires c κs = search needs
 
 returns : tie.Need-returns
-returns c = result-unasked ((c .before .before .before .before .before .args .table) .now) (c .before .before .before .before .before .args .state) (c .before .before .before .before .before .args .id) (readBody ((c .before .before .before .before .before .args .x) .now) (c .before .before .before .before .before .args .body)) _ (said-no (c .before .before .has-own .ensures) (c .before .if1 .taken)) (c .problem .ensures)
+returns c =
+    let if1 = c .before in
+    let has-own = if1 .before in
+    let start = has-own .before .before .before in
+    result-unasked (start .args .table .now) (start .args .state) (start .args .id) (readBody (start .args .x .now) (start .args .body)) _
+    (said-no (has-own .has-own .ensures) (if1 .if1 .taken)) (c .problem .ensures)
 
 own-code-requires : tie.Need-own-code-requires
 own-code-requires c κs = search needs
@@ -35,7 +40,19 @@ problem-requires-2 : tie.Need-problem-requires-2
 problem-requires-2 c κs = search needs
 
 returns-2 : tie.Need-returns-2
-returns-2 c = result-unexpected ((c .before .before .before .before .before .before .before .before .before .before .args .table) .now) (c .before .before .before .before .before .before .before .before .before .before .args .state) (c .before .before .before .before .before .before .before .before .before .before .args .id) (readBody ((c .before .before .before .before .before .before .before .before .before .before .args .x) .now) (c .before .before .before .before .before .before .before .before .before .before .args .body)) (said-yes (c .before .before .before .before .before .before .before .has-own .ensures) (c .before .before .before .before .before .before .if1 .left)) (c .before .before .before .before .before .own-code .result) (c .before .before .before .before .before .own-code .ensures) (c .before .before .before .before .operation-named .result) (c .before .before .before .before .operation-named .ensures) _ (ap (isClass 3 5) (sym (c .before .before .before .class .ensures)) ∙ (sym (c .before .before .is-class .ensures) ∙ c .before .if2 .taken)) (c .problem2 .ensures)
+returns-2 c =
+    let if2 = c .before in
+    let is-class = if2 .before in
+    let class = is-class .before in
+    let operation-named = class .before in
+    let own-code = operation-named .before in
+    let if1 = own-code .before in
+    let has-own = if1 .before in
+    let start = has-own .before .before .before in
+    result-unexpected (start .args .table .now) (start .args .state) (start .args .id) (readBody (start .args .x .now) (start .args .body))
+    (said-yes (has-own .has-own .ensures) (if1 .if1 .left)) (own-code .own-code .result) (own-code .own-code .ensures)
+    (operation-named .operation-named .result) (operation-named .operation-named .ensures) _
+    (ap (isClass 3 5) (sym (class .class .ensures)) ∙ (sym (is-class .is-class .ensures) ∙ if2 .if2 .taken)) (c .problem2 .ensures)
 
 is-other-requires : tie.Need-is-other-requires
 is-other-requires c κs = search needs
@@ -44,7 +61,22 @@ problem-requires-3 : tie.Need-problem-requires-3
 problem-requires-3 c κs = search needs
 
 returns-3 : tie.Need-returns-3
-returns-3 c = result-other ((c .before .before .before .before .before .before .before .before .before .before .before .before .args .table) .now) (c .before .before .before .before .before .before .before .before .before .before .before .before .args .state) (c .before .before .before .before .before .before .before .before .before .before .before .before .args .id) (readBody ((c .before .before .before .before .before .before .before .before .before .before .before .before .args .x) .now) (c .before .before .before .before .before .before .before .before .before .before .before .before .args .body)) (said-yes (c .before .before .before .before .before .before .before .before .before .has-own .ensures) (c .before .before .before .before .before .before .before .before .if1 .left)) (c .before .before .before .before .before .before .before .own-code .result) (c .before .before .before .before .before .before .before .own-code .ensures) (c .before .before .before .before .before .before .operation-named .result) (c .before .before .before .before .before .before .operation-named .ensures) (ap (isClass 3 5) (sym (c .before .before .before .before .before .class .ensures)) ∙ (sym (c .before .before .before .before .is-class .ensures) ∙ c .before .before .before .if2 .left)) _ (sym (c .before .before .is-other .ensures ((c .before .before .before .before .before .before .before .before .before .before .before .before .args .x) .now)) ∙ c .before .if3 .taken) (c .problem3 .ensures)
+returns-3 c =
+    let if3 = c .before in
+    let is-other = if3 .before in
+    let if2 = is-other .before in
+    let is-class = if2 .before in
+    let class = is-class .before in
+    let operation-named = class .before in
+    let own-code = operation-named .before in
+    let if1 = own-code .before in
+    let has-own = if1 .before in
+    let start = has-own .before .before .before in
+    result-other (start .args .table .now) (start .args .state) (start .args .id) (readBody (start .args .x .now) (start .args .body))
+    (said-yes (has-own .has-own .ensures) (if1 .if1 .left)) (own-code .own-code .result) (own-code .own-code .ensures)
+    (operation-named .operation-named .result) (operation-named .operation-named .ensures)
+    (ap (isClass 3 5) (sym (class .class .ensures)) ∙ (sym (is-class .is-class .ensures) ∙ if2 .if2 .left)) _
+    (sym (is-other .is-other .ensures (start .args .x .now)) ∙ if3 .if3 .taken) (c .problem3 .ensures)
 
 result-requires : tie.Need-result-requires
 result-requires c κs = search needs
@@ -59,10 +91,50 @@ problem-requires-4 : tie.Need-problem-requires-4
 problem-requires-4 c κs = search needs
 
 returns-4 : tie.Need-returns-4
-returns-4 c = result-wrong ((c .before .before .before .before .before .before .before .before .before .before .before .before .before .before .before .before .args .table) .now) (c .before .before .before .before .before .before .before .before .before .before .before .before .before .before .before .before .args .state) (c .before .before .before .before .before .before .before .before .before .before .before .before .before .before .before .before .args .id) (readBody ((c .before .before .before .before .before .before .before .before .before .before .before .before .before .before .before .before .args .x) .now) (c .before .before .before .before .before .before .before .before .before .before .before .before .before .before .before .before .args .body)) (said-yes (c .before .before .before .before .before .before .before .before .before .before .before .before .before .has-own .ensures) (c .before .before .before .before .before .before .before .before .before .before .before .before .if1 .left)) (c .before .before .before .before .before .before .before .before .before .before .before .own-code .result) (c .before .before .before .before .before .before .before .before .before .before .before .own-code .ensures) (c .before .before .before .before .before .before .before .before .before .before .operation-named .result) (c .before .before .before .before .before .before .before .before .before .before .operation-named .ensures) (ap (isClass 3 5) (sym (c .before .before .before .before .before .before .before .before .before .class .ensures)) ∙ (sym (c .before .before .before .before .before .before .before .before .is-class .ensures) ∙ c .before .before .before .before .before .before .before .if2 .left)) (sym (c .before .before .before .before .before .before .is-other .ensures ((c .before .before .before .before .before .before .before .before .before .before .before .before .before .before .before .before .args .x) .now)) ∙ c .before .before .before .before .before .if3 .left) (c .before .before .before .before .result .result) (c .before .before .before .before .result .ensures) _ (moved (valueRight (c .before .before .before .before .result .result)) _ _ _ (c .before .before .before .body-value .ensures ((c .before .before .before .before .before .before .before .before .before .before .before .before .before .before .before .before .args .x) .now)) (said-no (c .before .before .is-right .ensures) (c .before .if4 .taken))) (c .problem4 .ensures)
+returns-4 c =
+    let if4 = c .before in
+    let is-right = if4 .before in
+    let body-value = is-right .before in
+    let result = body-value .before in
+    let if3 = result .before in
+    let is-other = if3 .before in
+    let if2 = is-other .before in
+    let is-class = if2 .before in
+    let class = is-class .before in
+    let operation-named = class .before in
+    let own-code = operation-named .before in
+    let if1 = own-code .before in
+    let has-own = if1 .before in
+    let start = has-own .before .before .before in
+    result-wrong (start .args .table .now) (start .args .state) (start .args .id) (readBody (start .args .x .now) (start .args .body))
+    (said-yes (has-own .has-own .ensures) (if1 .if1 .left)) (own-code .own-code .result) (own-code .own-code .ensures)
+    (operation-named .operation-named .result) (operation-named .operation-named .ensures)
+    (ap (isClass 3 5) (sym (class .class .ensures)) ∙ (sym (is-class .is-class .ensures) ∙ if2 .if2 .left))
+    (sym (is-other .is-other .ensures (start .args .x .now)) ∙ if3 .if3 .left) (result .result .result) (result .result .ensures) _
+    (moved (valueRight (result .result .result)) _ _ _ (body-value .body-value .ensures (start .args .x .now)) (said-no (is-right .is-right .ensures) (if4 .if4 .taken)))
+    (c .problem4 .ensures)
 
 returns-5 : tie.Need-returns-5
-returns-5 c = result-right ((c .before .before .before .before .before .before .before .before .before .before .before .before .before .before .before .args .table) .now) (c .before .before .before .before .before .before .before .before .before .before .before .before .before .before .before .args .state) (c .before .before .before .before .before .before .before .before .before .before .before .before .before .before .before .args .id) (readBody ((c .before .before .before .before .before .before .before .before .before .before .before .before .before .before .before .args .x) .now) (c .before .before .before .before .before .before .before .before .before .before .before .before .before .before .before .args .body)) (said-yes (c .before .before .before .before .before .before .before .before .before .before .before .before .has-own .ensures) (c .before .before .before .before .before .before .before .before .before .before .before .if1 .left)) (c .before .before .before .before .before .before .before .before .before .before .own-code .result) (c .before .before .before .before .before .before .before .before .before .before .own-code .ensures) (c .before .before .before .before .before .before .before .before .before .operation-named .result) (c .before .before .before .before .before .before .before .before .before .operation-named .ensures) (ap (isClass 3 5) (sym (c .before .before .before .before .before .before .before .before .class .ensures)) ∙ (sym (c .before .before .before .before .before .before .before .is-class .ensures) ∙ c .before .before .before .before .before .before .if2 .left)) (sym (c .before .before .before .before .before .is-other .ensures ((c .before .before .before .before .before .before .before .before .before .before .before .before .before .before .before .args .x) .now)) ∙ c .before .before .before .before .if3 .left) (c .before .before .before .result .result) (c .before .before .before .result .ensures) (moved (valueRight (c .before .before .before .result .result)) _ _ _ (c .before .before .body-value .ensures ((c .before .before .before .before .before .before .before .before .before .before .before .before .before .before .before .args .x) .now)) (said-yes (c .before .is-right .ensures) (c .if4 .left)))
+returns-5 c =
+    let is-right = c .before in
+    let body-value = is-right .before in
+    let result = body-value .before in
+    let if3 = result .before in
+    let is-other = if3 .before in
+    let if2 = is-other .before in
+    let is-class = if2 .before in
+    let class = is-class .before in
+    let operation-named = class .before in
+    let own-code = operation-named .before in
+    let if1 = own-code .before in
+    let has-own = if1 .before in
+    let start = has-own .before .before .before in
+    result-right (start .args .table .now) (start .args .state) (start .args .id) (readBody (start .args .x .now) (start .args .body))
+    (said-yes (has-own .has-own .ensures) (if1 .if1 .left)) (own-code .own-code .result) (own-code .own-code .ensures)
+    (operation-named .operation-named .result) (operation-named .operation-named .ensures)
+    (ap (isClass 3 5) (sym (class .class .ensures)) ∙ (sym (is-class .is-class .ensures) ∙ if2 .if2 .left))
+    (sym (is-other .is-other .ensures (start .args .x .now)) ∙ if3 .if3 .left) (result .result .result) (result .result .ensures)
+    (moved (valueRight (result .result .result)) _ _ _ (body-value .body-value .ensures (start .args .x .now)) (said-yes (is-right .is-right .ensures) (c .if4 .left)))
 
 pub check-result-spec : {M : Type 1} → statement M
 check-result-spec = tie.close (tie.spec has-own-requires problem-requires returns own-code-requires operation-named-requires class-requires is-class-requires problem-requires-2 returns-2 is-other-requires problem-requires-3 returns-3 result-requires body-value-requires is-right-requires problem-requires-4 returns-4 returns-5)

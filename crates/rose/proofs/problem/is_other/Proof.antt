@@ -25,14 +25,27 @@ same-requires : tie.Need-same-requires
 same-requires c κs = search needs
 
 returns : tie.Need-returns
-returns c = λ x. ap not (c .same .ensures ∙ ap (λ (k : Code). sameCode k (c .before .before .before .before .before .before .before .args .code)) (c .before .field-code .ensures)) ∙ other-local x (c .before .before .before .before .before .before .before .args .body) (c .before .before .before .before .before .body .given .0 .0) (c .before .before .before .before .before .body .given .0 .1 .0) (c .before .before .before .before .before .before .before .args .code) (cc) ((sym (c .before .before .before .is-local .ensures) ∙ c .before .before .if1 .taken))
+returns c =
+    let field-code = c .before in
+    let if1 = field-code .before in
+    let is-local = if1 .before in
+    let body = is-local .before .before in
+    let start = body .before .before in
+    λ x. ap not (c .same .ensures ∙ ap (λ (k : Code). sameCode k (start .args .code)) (field-code .field-code .ensures)) ∙ other-local x
+    (start .args .body) (body .body .given .0 .0) (body .body .given .0 .1 .0) (start .args .code) (cc)
+    ((sym (is-local .is-local .ensures) ∙ if1 .if1 .taken))
 
 returns-2 : tie.Need-returns-2
 unfolding readBody
 returns-2 c = λ x. cc
 
 returns-3 : tie.Need-returns-3
-returns-3 c = λ x. other-form x (c .before .before .before .before .before .args .body) (c .before .before .before .body .given .0 .0) (c .before .before .before .body .given .0 .1 .0) (c .before .before .before .before .before .args .code) (cc) ((sym (c .before .is-local .ensures) ∙ c .if1 .left))
+returns-3 c =
+    let is-local = c .before in
+    let body = is-local .before .before in
+    let start = body .before .before in
+    λ x. other-form x (start .args .body) (body .body .given .0 .0) (body .body .given .0 .1 .0) (start .args .code) (cc)
+    ((sym (is-local .is-local .ensures) ∙ c .if1 .left))
 
 pub is-other-spec : {M : Type 1} → statement M
 is-other-spec =

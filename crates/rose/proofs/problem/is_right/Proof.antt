@@ -26,16 +26,29 @@ octets-of-requires : tie.Need-octets-of-requires
 octets-of-requires c κs = search needs
 
 returns : tie.Need-returns
-returns c = right-empty ((c .before .before .before .before .before .before .args .x) .now) (c .before .before .before .before .before .before .args .rule) (c .before .before .before .before .before .before .args .value) (c .before .before .before .value .given .0 .0) (cc) _ (c .before .octets-of .ensures) (c .if1 .taken)
+returns c =
+    let octets-of = c .before in
+    let value = octets-of .before .before in
+    let start = value .before .before .before in
+    right-empty (start .args .x .now) (start .args .rule) (start .args .value) (value .value .given .0 .0) (cc) _ (octets-of .octets-of .ensures)
+    (c .if1 .taken)
 
 value-right-requires-2 : tie.Need-value-right-requires-2
 value-right-requires-2 c κs = search needs
 
 returns-2 : tie.Need-returns-2
-returns-2 c = right-absent ((c .before .before .before .before .before .args .x) .now) (c .before .before .before .before .before .args .rule) (c .before .before .before .before .before .args .value) _ (cc) (c .value-right .ensures)
+returns-2 c =
+    let start = c .before .before .before .before .before in
+    right-absent (start .args .x .now) (start .args .rule) (start .args .value) _ (cc) (c .value-right .ensures)
 
 returns-3 : tie.Need-returns-3
-returns-3 c = right-octets ((c .before .before .before .before .before .before .before .args .x) .now) (c .before .before .before .before .before .before .before .args .rule) (c .before .before .before .before .before .before .before .args .value) (c .before .before .before .before .value .given .0 .0) (cc) _ (c .before .before .octets-of .ensures) (c .before .if1 .left) _ (c .value-right2 .ensures)
+returns-3 c =
+    let if1 = c .before in
+    let octets-of = if1 .before in
+    let value = octets-of .before .before in
+    let start = value .before .before .before in
+    right-octets (start .args .x .now) (start .args .rule) (start .args .value) (value .value .given .0 .0) (cc) _ (octets-of .octets-of .ensures)
+    (if1 .if1 .left) _ (c .value-right2 .ensures)
 
 pub is-right-spec : {M : Type 1} → statement M
 is-right-spec =

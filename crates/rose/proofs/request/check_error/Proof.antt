@@ -16,7 +16,11 @@ has-peer-requires : tie.Need-has-peer-requires
 has-peer-requires c κs = search needs
 
 returns : tie.Need-returns
-returns c = error-unknown ((c .before .before .before .before .args .table) .now) (c .before .before .before .before .args .state) ((c .before .before .before .before .args .id) .0) (c .before .before .before .before .args .code) ((c .before .before .before .before .args .value) .now) (c .before .before .before .before .args .room) (said-no (c .before .has-peer .ensures) (c .if1 .taken))
+returns c =
+    let has-peer = c .before in
+    let start = has-peer .before .before .before in
+    error-unknown (start .args .table .now) (start .args .state) (start .args .id .0) (start .args .code) (start .args .value .now)
+    (start .args .room) (said-no (has-peer .has-peer .ensures) (c .if1 .taken))
 
 peer-code-requires : tie.Need-peer-code-requires
 peer-code-requires c κs = search needs
@@ -31,7 +35,18 @@ is-class-requires : tie.Need-is-class-requires
 is-class-requires c κs = search needs
 
 returns-2 : tie.Need-returns-2
-returns-2 c = error-class ((c .before .before .before .before .before .before .before .before .before .args .table) .now) (c .before .before .before .before .before .before .before .before .before .args .state) ((c .before .before .before .before .before .before .before .before .before .args .id) .0) (c .before .before .before .before .before .before .before .before .before .args .code) ((c .before .before .before .before .before .before .before .before .before .args .value) .now) (c .before .before .before .before .before .before .before .before .before .args .room) (said-yes (c .before .before .before .before .before .before .has-peer .ensures) (c .before .before .before .before .before .if1 .left)) (c .before .before .before .operation-named .result) (c .before .before .before .operation-named .ensures ∙ ap (operationOf ((c .before .before .before .before .before .before .before .before .before .args .table) .now)) (c .before .before .before .before .peer-code .ensures)) (ap (isClass 4 5) (sym (c .before .before .class .ensures)) ∙ (sym (c .before .is-class .ensures) ∙ c .if2 .taken))
+returns-2 c =
+    let is-class = c .before in
+    let class = is-class .before in
+    let operation-named = class .before in
+    let peer-code = operation-named .before in
+    let if1 = peer-code .before in
+    let has-peer = if1 .before in
+    let start = has-peer .before .before .before in
+    error-class (start .args .table .now) (start .args .state) (start .args .id .0) (start .args .code) (start .args .value .now) (start .args .room)
+    (said-yes (has-peer .has-peer .ensures) (if1 .if1 .left)) (operation-named .operation-named .result)
+    (operation-named .operation-named .ensures ∙ ap (operationOf (start .args .table .now)) (peer-code .peer-code .ensures))
+    (ap (isClass 4 5) (sym (class .class .ensures)) ∙ (sym (is-class .is-class .ensures) ∙ c .if2 .taken))
 
 error-named-requires : tie.Need-error-named-requires
 error-named-requires c κs = search needs
@@ -40,13 +55,44 @@ is-known-requires : tie.Need-is-known-requires
 is-known-requires c κs = search needs
 
 returns-3 : tie.Need-returns-3
-returns-3 c = error-not-known ((c .before .before .before .before .before .before .before .before .before .before .before .before .args .table) .now) (c .before .before .before .before .before .before .before .before .before .before .before .before .args .state) ((c .before .before .before .before .before .before .before .before .before .before .before .before .args .id) .0) (c .before .before .before .before .before .before .before .before .before .before .before .before .args .code) ((c .before .before .before .before .before .before .before .before .before .before .before .before .args .value) .now) (c .before .before .before .before .before .before .before .before .before .before .before .before .args .room) (said-yes (c .before .before .before .before .before .before .before .before .before .has-peer .ensures) (c .before .before .before .before .before .before .before .before .if1 .left)) (c .before .before .before .before .before .before .operation-named .result) (c .before .before .before .before .before .before .operation-named .ensures ∙ ap (operationOf ((c .before .before .before .before .before .before .before .before .before .before .before .before .args .table) .now)) (c .before .before .before .before .before .before .before .peer-code .ensures)) (ap (isClass 4 5) (sym (c .before .before .before .before .before .class .ensures)) ∙ (sym (c .before .before .before .before .is-class .ensures) ∙ c .before .before .before .if2 .left)) (c .before .before .error-named .result) (c .before .before .error-named .ensures) (said-no (c .before .is-known .ensures) (c .if3 .taken))
+returns-3 c =
+    let is-known = c .before in
+    let error-named = is-known .before in
+    let if2 = error-named .before in
+    let is-class = if2 .before in
+    let class = is-class .before in
+    let operation-named = class .before in
+    let peer-code = operation-named .before in
+    let if1 = peer-code .before in
+    let has-peer = if1 .before in
+    let start = has-peer .before .before .before in
+    error-not-known (start .args .table .now) (start .args .state) (start .args .id .0) (start .args .code) (start .args .value .now)
+    (start .args .room) (said-yes (has-peer .has-peer .ensures) (if1 .if1 .left)) (operation-named .operation-named .result)
+    (operation-named .operation-named .ensures ∙ ap (operationOf (start .args .table .now)) (peer-code .peer-code .ensures))
+    (ap (isClass 4 5) (sym (class .class .ensures)) ∙ (sym (is-class .is-class .ensures) ∙ if2 .if2 .left)) (error-named .error-named .result)
+    (error-named .error-named .ensures) (said-no (is-known .is-known .ensures) (c .if3 .taken))
 
 is-paired-requires : tie.Need-is-paired-requires
 is-paired-requires c κs = search needs
 
 returns-4 : tie.Need-returns-4
-returns-4 c = error-not-paired ((c .before .before .before .before .before .before .before .before .before .before .before .before .before .before .args .table) .now) (c .before .before .before .before .before .before .before .before .before .before .before .before .before .before .args .state) ((c .before .before .before .before .before .before .before .before .before .before .before .before .before .before .args .id) .0) (c .before .before .before .before .before .before .before .before .before .before .before .before .before .before .args .code) ((c .before .before .before .before .before .before .before .before .before .before .before .before .before .before .args .value) .now) (c .before .before .before .before .before .before .before .before .before .before .before .before .before .before .args .room) (said-yes (c .before .before .before .before .before .before .before .before .before .before .before .has-peer .ensures) (c .before .before .before .before .before .before .before .before .before .before .if1 .left)) (c .before .before .before .before .before .before .before .before .operation-named .result) (c .before .before .before .before .before .before .before .before .operation-named .ensures ∙ ap (operationOf ((c .before .before .before .before .before .before .before .before .before .before .before .before .before .before .args .table) .now)) (c .before .before .before .before .before .before .before .before .before .peer-code .ensures)) (ap (isClass 4 5) (sym (c .before .before .before .before .before .before .before .class .ensures)) ∙ (sym (c .before .before .before .before .before .before .is-class .ensures) ∙ c .before .before .before .before .before .if2 .left)) (c .before .before .before .before .error-named .result) (c .before .before .before .before .error-named .ensures) (moved (λ (k : Code). paired ((c .before .before .before .before .before .before .before .before .before .before .before .before .before .before .args .table) .now) k (c .before .before .before .before .before .before .before .before .before .before .before .before .before .before .args .code)) _ _ _ (c .before .before .before .before .before .before .before .before .before .peer-code .ensures) (said-no (c .before .is-paired .ensures .in-valid (c .before .before .before .before .before .before .before .before .before .before .before .before .before .before .pre)) (c .if4 .taken)))
+returns-4 c =
+    let is-paired = c .before in
+    let error-named = is-paired .before .before .before in
+    let if2 = error-named .before in
+    let is-class = if2 .before in
+    let class = is-class .before in
+    let operation-named = class .before in
+    let peer-code = operation-named .before in
+    let if1 = peer-code .before in
+    let has-peer = if1 .before in
+    let start = has-peer .before .before .before in
+    error-not-paired (start .args .table .now) (start .args .state) (start .args .id .0) (start .args .code) (start .args .value .now)
+    (start .args .room) (said-yes (has-peer .has-peer .ensures) (if1 .if1 .left)) (operation-named .operation-named .result)
+    (operation-named .operation-named .ensures ∙ ap (operationOf (start .args .table .now)) (peer-code .peer-code .ensures))
+    (ap (isClass 4 5) (sym (class .class .ensures)) ∙ (sym (is-class .is-class .ensures) ∙ if2 .if2 .left)) (error-named .error-named .result)
+    (error-named .error-named .ensures)
+    (moved (λ (k : Code). paired (start .args .table .now) k (start .args .code)) _ _ _ (peer-code .peer-code .ensures) (said-no (is-paired .is-paired .ensures .in-valid (start .pre)) (c .if4 .taken)))
 
 parameter-requires : tie.Need-parameter-requires
 parameter-requires c κs = search needs
@@ -58,7 +104,31 @@ fails-requires : tie.Need-fails-requires
 fails-requires c κs = search needs
 
 returns-5 : tie.Need-returns-5
-returns-5 c = error-value ((c .before .before .before .before .before .before .before .before .before .before .before .before .before .before .before .before .before .before .args .table) .now) (c .before .before .before .before .before .before .before .before .before .before .before .before .before .before .before .before .before .before .args .state) ((c .before .before .before .before .before .before .before .before .before .before .before .before .before .before .before .before .before .before .args .id) .0) (c .before .before .before .before .before .before .before .before .before .before .before .before .before .before .before .before .before .before .args .code) ((c .before .before .before .before .before .before .before .before .before .before .before .before .before .before .before .before .before .before .args .value) .now) (c .before .before .before .before .before .before .before .before .before .before .before .before .before .before .before .before .before .before .args .room) (said-yes (c .before .before .before .before .before .before .before .before .before .before .before .before .before .before .before .has-peer .ensures) (c .before .before .before .before .before .before .before .before .before .before .before .before .before .before .if1 .left)) (c .before .before .before .before .before .before .before .before .before .before .before .before .operation-named .result) (c .before .before .before .before .before .before .before .before .before .before .before .before .operation-named .ensures ∙ ap (operationOf ((c .before .before .before .before .before .before .before .before .before .before .before .before .before .before .before .before .before .before .args .table) .now)) (c .before .before .before .before .before .before .before .before .before .before .before .before .before .peer-code .ensures)) (ap (isClass 4 5) (sym (c .before .before .before .before .before .before .before .before .before .before .before .class .ensures)) ∙ (sym (c .before .before .before .before .before .before .before .before .before .before .is-class .ensures) ∙ c .before .before .before .before .before .before .before .before .before .if2 .left)) (c .before .before .before .before .before .before .before .before .error-named .result) (c .before .before .before .before .before .before .before .before .error-named .ensures) (said-yes (c .before .before .before .before .before .before .before .is-known .ensures) (c .before .before .before .before .before .before .if3 .left)) (moved (λ (k : Code). paired ((c .before .before .before .before .before .before .before .before .before .before .before .before .before .before .before .before .before .before .args .table) .now) k (c .before .before .before .before .before .before .before .before .before .before .before .before .before .before .before .before .before .before .args .code)) _ _ _ (c .before .before .before .before .before .before .before .before .before .before .before .before .before .peer-code .ensures) (said-yes (c .before .before .before .before .before .is-paired .ensures .in-valid (c .before .before .before .before .before .before .before .before .before .before .before .before .before .before .before .before .before .before .pre)) (c .before .before .before .before .if4 .left))) (c .before .before .before .parameter .result) (c .before .before .before .parameter .ensures) (c .before .before .check-value .result) (c .before .before .check-value .ensures) (sym (c .before .fails .ensures) ∙ c .if5 .taken)
+returns-5 c =
+    let fails = c .before in
+    let check-value = fails .before in
+    let parameter = check-value .before in
+    let if4 = parameter .before in
+    let is-paired = if4 .before in
+    let if3 = is-paired .before in
+    let is-known = if3 .before in
+    let error-named = is-known .before in
+    let if2 = error-named .before in
+    let is-class = if2 .before in
+    let class = is-class .before in
+    let operation-named = class .before in
+    let peer-code = operation-named .before in
+    let if1 = peer-code .before in
+    let has-peer = if1 .before in
+    let start = has-peer .before .before .before in
+    error-value (start .args .table .now) (start .args .state) (start .args .id .0) (start .args .code) (start .args .value .now) (start .args .room)
+    (said-yes (has-peer .has-peer .ensures) (if1 .if1 .left)) (operation-named .operation-named .result)
+    (operation-named .operation-named .ensures ∙ ap (operationOf (start .args .table .now)) (peer-code .peer-code .ensures))
+    (ap (isClass 4 5) (sym (class .class .ensures)) ∙ (sym (is-class .is-class .ensures) ∙ if2 .if2 .left)) (error-named .error-named .result)
+    (error-named .error-named .ensures) (said-yes (is-known .is-known .ensures) (if3 .if3 .left))
+    (moved (λ (k : Code). paired (start .args .table .now) k (start .args .code)) _ _ _ (peer-code .peer-code .ensures) (said-yes (is-paired .is-paired .ensures .in-valid (start .pre)) (if4 .if4 .left)))
+    (parameter .parameter .result) (parameter .parameter .ensures) (check-value .check-value .result) (check-value .check-value .ensures)
+    (sym (fails .fails .ensures) ∙ c .if5 .taken)
 
 error-size-requires : tie.Need-error-size-requires
 error-size-requires c κs = search needs
@@ -67,7 +137,34 @@ check-size-requires : tie.Need-check-size-requires
 check-size-requires c κs = search needs
 
 returns-6 : tie.Need-returns-6
-returns-6 c = error-sized ((c .before .before .before .before .before .before .before .before .before .before .before .before .before .before .before .before .before .before .before .before .args .table) .now) (c .before .before .before .before .before .before .before .before .before .before .before .before .before .before .before .before .before .before .before .before .args .state) ((c .before .before .before .before .before .before .before .before .before .before .before .before .before .before .before .before .before .before .before .before .args .id) .0) (c .before .before .before .before .before .before .before .before .before .before .before .before .before .before .before .before .before .before .before .before .args .code) ((c .before .before .before .before .before .before .before .before .before .before .before .before .before .before .before .before .before .before .before .before .args .value) .now) (c .before .before .before .before .before .before .before .before .before .before .before .before .before .before .before .before .before .before .before .before .args .room) (said-yes (c .before .before .before .before .before .before .before .before .before .before .before .before .before .before .before .before .before .has-peer .ensures) (c .before .before .before .before .before .before .before .before .before .before .before .before .before .before .before .before .if1 .left)) (c .before .before .before .before .before .before .before .before .before .before .before .before .before .before .operation-named .result) (c .before .before .before .before .before .before .before .before .before .before .before .before .before .before .operation-named .ensures ∙ ap (operationOf ((c .before .before .before .before .before .before .before .before .before .before .before .before .before .before .before .before .before .before .before .before .args .table) .now)) (c .before .before .before .before .before .before .before .before .before .before .before .before .before .before .before .peer-code .ensures)) (ap (isClass 4 5) (sym (c .before .before .before .before .before .before .before .before .before .before .before .before .before .class .ensures)) ∙ (sym (c .before .before .before .before .before .before .before .before .before .before .before .before .is-class .ensures) ∙ c .before .before .before .before .before .before .before .before .before .before .before .if2 .left)) (c .before .before .before .before .before .before .before .before .before .before .error-named .result) (c .before .before .before .before .before .before .before .before .before .before .error-named .ensures) (said-yes (c .before .before .before .before .before .before .before .before .before .is-known .ensures) (c .before .before .before .before .before .before .before .before .if3 .left)) (moved (λ (k : Code). paired ((c .before .before .before .before .before .before .before .before .before .before .before .before .before .before .before .before .before .before .before .before .args .table) .now) k (c .before .before .before .before .before .before .before .before .before .before .before .before .before .before .before .before .before .before .before .before .args .code)) _ _ _ (c .before .before .before .before .before .before .before .before .before .before .before .before .before .before .before .peer-code .ensures) (said-yes (c .before .before .before .before .before .before .before .is-paired .ensures .in-valid (c .before .before .before .before .before .before .before .before .before .before .before .before .before .before .before .before .before .before .before .before .pre)) (c .before .before .before .before .before .before .if4 .left))) (c .before .before .before .before .before .parameter .result) (c .before .before .before .before .before .parameter .ensures) (c .before .before .before .before .check-value .result) (c .before .before .before .before .check-value .ensures) (sym (c .before .before .before .fails .ensures) ∙ c .before .before .if5 .left) _ (c .check-size .ensures (encodeError ((c .before .before .before .before .before .before .before .before .before .before .before .before .before .before .before .before .before .before .before .before .args .id) .0) (c .before .before .before .before .before .before .before .before .before .before .before .before .before .before .before .before .before .before .before .before .args .code) (given ((c .before .before .before .before .before .before .before .before .before .before .before .before .before .before .before .before .before .before .before .before .args .value) .now))) (c .before .error-size .ensures))
+returns-6 c =
+    let error-size = c .before in
+    let if5 = error-size .before in
+    let fails = if5 .before in
+    let check-value = fails .before in
+    let parameter = check-value .before in
+    let if4 = parameter .before in
+    let is-paired = if4 .before in
+    let if3 = is-paired .before in
+    let is-known = if3 .before in
+    let error-named = is-known .before in
+    let if2 = error-named .before in
+    let is-class = if2 .before in
+    let class = is-class .before in
+    let operation-named = class .before in
+    let peer-code = operation-named .before in
+    let if1 = peer-code .before in
+    let has-peer = if1 .before in
+    let start = has-peer .before .before .before in
+    error-sized (start .args .table .now) (start .args .state) (start .args .id .0) (start .args .code) (start .args .value .now) (start .args .room)
+    (said-yes (has-peer .has-peer .ensures) (if1 .if1 .left)) (operation-named .operation-named .result)
+    (operation-named .operation-named .ensures ∙ ap (operationOf (start .args .table .now)) (peer-code .peer-code .ensures))
+    (ap (isClass 4 5) (sym (class .class .ensures)) ∙ (sym (is-class .is-class .ensures) ∙ if2 .if2 .left)) (error-named .error-named .result)
+    (error-named .error-named .ensures) (said-yes (is-known .is-known .ensures) (if3 .if3 .left))
+    (moved (λ (k : Code). paired (start .args .table .now) k (start .args .code)) _ _ _ (peer-code .peer-code .ensures) (said-yes (is-paired .is-paired .ensures .in-valid (start .pre)) (if4 .if4 .left)))
+    (parameter .parameter .result) (parameter .parameter .ensures) (check-value .check-value .result) (check-value .check-value .ensures)
+    (sym (fails .fails .ensures) ∙ if5 .if5 .left) _
+    (c .check-size .ensures (encodeError (start .args .id .0) (start .args .code) (given (start .args .value .now))) (error-size .error-size .ensures))
 
 pub check-error-spec : {M : Type 1} → statement M
 check-error-spec = tie.close (tie.spec has-peer-requires returns peer-code-requires operation-named-requires class-requires is-class-requires returns-2 error-named-requires is-known-requires returns-3 is-paired-requires returns-4 parameter-requires check-value-requires fails-requires returns-5 error-size-requires check-size-requires returns-6)

@@ -16,19 +16,44 @@ is-listed-requires : tie.Need-is-listed-requires
 is-listed-requires c κs = search needs
 
 returns : tie.Need-returns
-returns c = invoke-unknown ((c .before .before .before .before .before .args .table) .now) (c .before .before .before .before .before .args .state) ((c .before .before .before .before .before .args .id) .0) (c .before .before .before .before .before .args .code) (readPeerLink (c .before .before .before .before .before .args .linked)) ((c .before .before .before .before .before .args .value) .now) (c .before .before .before .before .before .args .room) (c .before .before .operation-named .result) (c .before .before .operation-named .ensures) (said-no (c .before .is-listed .ensures) (c .if1 .taken))
+returns c =
+    let is-listed = c .before in
+    let operation-named = is-listed .before in
+    let start = operation-named .before .before .before in
+    invoke-unknown (start .args .table .now) (start .args .state) (start .args .id .0) (start .args .code) (readPeerLink (start .args .linked))
+    (start .args .value .now) (start .args .room) (operation-named .operation-named .result) (operation-named .operation-named .ensures)
+    (said-no (is-listed .is-listed .ensures) (c .if1 .taken))
 
 has-own-requires : tie.Need-has-own-requires
 has-own-requires c κs = search needs
 
 returns-2 : tie.Need-returns-2
-returns-2 c = invoke-in-use ((c .before .before .before .before .before .before .before .args .table) .now) (c .before .before .before .before .before .before .before .args .state) ((c .before .before .before .before .before .before .before .args .id) .0) (c .before .before .before .before .before .before .before .args .code) (readPeerLink (c .before .before .before .before .before .before .before .args .linked)) ((c .before .before .before .before .before .before .before .args .value) .now) (c .before .before .before .before .before .before .before .args .room) (c .before .before .before .before .operation-named .result) (c .before .before .before .before .operation-named .ensures) (said-yes (c .before .before .before .is-listed .ensures) (c .before .before .if1 .left)) (sym (c .before .has-own .ensures) ∙ c .if2 .taken)
+returns-2 c =
+    let has-own = c .before in
+    let if1 = has-own .before in
+    let is-listed = if1 .before in
+    let operation-named = is-listed .before in
+    let start = operation-named .before .before .before in
+    invoke-in-use (start .args .table .now) (start .args .state) (start .args .id .0) (start .args .code) (readPeerLink (start .args .linked))
+    (start .args .value .now) (start .args .room) (operation-named .operation-named .result) (operation-named .operation-named .ensures)
+    (said-yes (is-listed .is-listed .ensures) (if1 .if1 .left)) (sym (has-own .has-own .ensures) ∙ c .if2 .taken)
 
 is-busy-requires : tie.Need-is-busy-requires
 is-busy-requires c κs = search needs
 
 returns-3 : tie.Need-returns-3
-returns-3 c = invoke-busy ((c .before .before .before .before .before .before .before .before .before .before .args .table) .now) (c .before .before .before .before .before .before .before .before .before .before .args .state) ((c .before .before .before .before .before .before .before .before .before .before .args .id) .0) (c .before .before .before .before .before .before .before .before .before .before .args .code) (readPeerLink (c .before .before .before .before .before .before .before .before .before .before .args .linked)) ((c .before .before .before .before .before .before .before .before .before .before .args .value) .now) (c .before .before .before .before .before .before .before .before .before .before .args .room) (c .before .before .before .before .before .before .before .operation-named .result) (c .before .before .before .before .before .before .before .operation-named .ensures) (said-yes (c .before .before .before .before .before .before .is-listed .ensures) (c .before .before .before .before .before .if1 .left)) (sym (c .before .before .before .before .has-own .ensures) ∙ c .before .before .before .if2 .left) (sym (c .before .is-busy .ensures) ∙ c .if3 .taken)
+returns-3 c =
+    let is-busy = c .before in
+    let if2 = is-busy .before .before in
+    let has-own = if2 .before in
+    let if1 = has-own .before in
+    let is-listed = if1 .before in
+    let operation-named = is-listed .before in
+    let start = operation-named .before .before .before in
+    invoke-busy (start .args .table .now) (start .args .state) (start .args .id .0) (start .args .code) (readPeerLink (start .args .linked))
+    (start .args .value .now) (start .args .room) (operation-named .operation-named .result) (operation-named .operation-named .ensures)
+    (said-yes (is-listed .is-listed .ensures) (if1 .if1 .left)) (sym (has-own .has-own .ensures) ∙ if2 .if2 .left)
+    (sym (is-busy .is-busy .ensures) ∙ c .if3 .taken)
 
 check-linked-requires : tie.Need-check-linked-requires
 check-linked-requires c κs = search needs
@@ -37,7 +62,22 @@ fails-requires : tie.Need-fails-requires
 fails-requires c κs = search needs
 
 returns-4 : tie.Need-returns-4
-returns-4 c = invoke-linked ((c .before .before .before .before .before .before .before .before .before .before .before .before .before .args .table) .now) (c .before .before .before .before .before .before .before .before .before .before .before .before .before .args .state) ((c .before .before .before .before .before .before .before .before .before .before .before .before .before .args .id) .0) (c .before .before .before .before .before .before .before .before .before .before .before .before .before .args .code) (readPeerLink (c .before .before .before .before .before .before .before .before .before .before .before .before .before .args .linked)) ((c .before .before .before .before .before .before .before .before .before .before .before .before .before .args .value) .now) (c .before .before .before .before .before .before .before .before .before .before .before .before .before .args .room) (c .before .before .before .before .before .before .before .before .before .before .operation-named .result) (c .before .before .before .before .before .before .before .before .before .before .operation-named .ensures) (said-yes (c .before .before .before .before .before .before .before .before .before .is-listed .ensures) (c .before .before .before .before .before .before .before .before .if1 .left)) (sym (c .before .before .before .before .before .before .before .has-own .ensures) ∙ c .before .before .before .before .before .before .if2 .left) (sym (c .before .before .before .before .is-busy .ensures) ∙ c .before .before .before .if3 .left) (c .before .before .check-linked .result) (c .before .before .check-linked .ensures) (sym (c .before .fails .ensures) ∙ c .if4 .taken)
+returns-4 c =
+    let fails = c .before in
+    let check-linked = fails .before in
+    let if3 = check-linked .before in
+    let is-busy = if3 .before in
+    let if2 = is-busy .before .before in
+    let has-own = if2 .before in
+    let if1 = has-own .before in
+    let is-listed = if1 .before in
+    let operation-named = is-listed .before in
+    let start = operation-named .before .before .before in
+    invoke-linked (start .args .table .now) (start .args .state) (start .args .id .0) (start .args .code) (readPeerLink (start .args .linked))
+    (start .args .value .now) (start .args .room) (operation-named .operation-named .result) (operation-named .operation-named .ensures)
+    (said-yes (is-listed .is-listed .ensures) (if1 .if1 .left)) (sym (has-own .has-own .ensures) ∙ if2 .if2 .left)
+    (sym (is-busy .is-busy .ensures) ∙ if3 .if3 .left) (check-linked .check-linked .result) (check-linked .check-linked .ensures)
+    (sym (fails .fails .ensures) ∙ c .if4 .taken)
 
 argument-requires : tie.Need-argument-requires
 argument-requires c κs = search needs
@@ -49,7 +89,27 @@ fails-requires-2 : tie.Need-fails-requires-2
 fails-requires-2 c κs = search needs
 
 returns-5 : tie.Need-returns-5
-returns-5 c = invoke-value ((c .before .before .before .before .before .before .before .before .before .before .before .before .before .before .before .before .before .args .table) .now) (c .before .before .before .before .before .before .before .before .before .before .before .before .before .before .before .before .before .args .state) ((c .before .before .before .before .before .before .before .before .before .before .before .before .before .before .before .before .before .args .id) .0) (c .before .before .before .before .before .before .before .before .before .before .before .before .before .before .before .before .before .args .code) (readPeerLink (c .before .before .before .before .before .before .before .before .before .before .before .before .before .before .before .before .before .args .linked)) ((c .before .before .before .before .before .before .before .before .before .before .before .before .before .before .before .before .before .args .value) .now) (c .before .before .before .before .before .before .before .before .before .before .before .before .before .before .before .before .before .args .room) (c .before .before .before .before .before .before .before .before .before .before .before .before .before .before .operation-named .result) (c .before .before .before .before .before .before .before .before .before .before .before .before .before .before .operation-named .ensures) (said-yes (c .before .before .before .before .before .before .before .before .before .before .before .before .before .is-listed .ensures) (c .before .before .before .before .before .before .before .before .before .before .before .before .if1 .left)) (sym (c .before .before .before .before .before .before .before .before .before .before .before .has-own .ensures) ∙ c .before .before .before .before .before .before .before .before .before .before .if2 .left) (sym (c .before .before .before .before .before .before .before .before .is-busy .ensures) ∙ c .before .before .before .before .before .before .before .if3 .left) (c .before .before .before .before .before .before .check-linked .result) (c .before .before .before .before .before .before .check-linked .ensures) (sym (c .before .before .before .before .before .fails .ensures) ∙ c .before .before .before .before .if4 .left) (c .before .before .before .argument .result) (c .before .before .before .argument .ensures) (c .before .before .check-value .result) (c .before .before .check-value .ensures) (sym (c .before .fails2 .ensures) ∙ c .if5 .taken)
+returns-5 c =
+    let fails2 = c .before in
+    let check-value = fails2 .before in
+    let argument = check-value .before in
+    let if4 = argument .before in
+    let fails = if4 .before in
+    let check-linked = fails .before in
+    let if3 = check-linked .before in
+    let is-busy = if3 .before in
+    let if2 = is-busy .before .before in
+    let has-own = if2 .before in
+    let if1 = has-own .before in
+    let is-listed = if1 .before in
+    let operation-named = is-listed .before in
+    let start = operation-named .before .before .before in
+    invoke-value (start .args .table .now) (start .args .state) (start .args .id .0) (start .args .code) (readPeerLink (start .args .linked))
+    (start .args .value .now) (start .args .room) (operation-named .operation-named .result) (operation-named .operation-named .ensures)
+    (said-yes (is-listed .is-listed .ensures) (if1 .if1 .left)) (sym (has-own .has-own .ensures) ∙ if2 .if2 .left)
+    (sym (is-busy .is-busy .ensures) ∙ if3 .if3 .left) (check-linked .check-linked .result) (check-linked .check-linked .ensures)
+    (sym (fails .fails .ensures) ∙ if4 .if4 .left) (argument .argument .result) (argument .argument .ensures) (check-value .check-value .result)
+    (check-value .check-value .ensures) (sym (fails2 .fails2 .ensures) ∙ c .if5 .taken)
 
 class-requires : tie.Need-class-requires
 class-requires c κs = search needs
@@ -58,7 +118,31 @@ lacks-room-requires : tie.Need-lacks-room-requires
 lacks-room-requires c κs = search needs
 
 returns-6 : tie.Need-returns-6
-returns-6 c = invoke-full ((c .before .before .before .before .before .before .before .before .before .before .before .before .before .before .before .before .before .before .before .before .args .table) .now) (c .before .before .before .before .before .before .before .before .before .before .before .before .before .before .before .before .before .before .before .before .args .state) ((c .before .before .before .before .before .before .before .before .before .before .before .before .before .before .before .before .before .before .before .before .args .id) .0) (c .before .before .before .before .before .before .before .before .before .before .before .before .before .before .before .before .before .before .before .before .args .code) (readPeerLink (c .before .before .before .before .before .before .before .before .before .before .before .before .before .before .before .before .before .before .before .before .args .linked)) ((c .before .before .before .before .before .before .before .before .before .before .before .before .before .before .before .before .before .before .before .before .args .value) .now) (c .before .before .before .before .before .before .before .before .before .before .before .before .before .before .before .before .before .before .before .before .args .room) (c .before .before .before .before .before .before .before .before .before .before .before .before .before .before .before .before .before .operation-named .result) (c .before .before .before .before .before .before .before .before .before .before .before .before .before .before .before .before .before .operation-named .ensures) (said-yes (c .before .before .before .before .before .before .before .before .before .before .before .before .before .before .before .before .is-listed .ensures) (c .before .before .before .before .before .before .before .before .before .before .before .before .before .before .before .if1 .left)) (sym (c .before .before .before .before .before .before .before .before .before .before .before .before .before .before .has-own .ensures) ∙ c .before .before .before .before .before .before .before .before .before .before .before .before .before .if2 .left) (sym (c .before .before .before .before .before .before .before .before .before .before .before .is-busy .ensures) ∙ c .before .before .before .before .before .before .before .before .before .before .if3 .left) (c .before .before .before .before .before .before .before .before .before .check-linked .result) (c .before .before .before .before .before .before .before .before .before .check-linked .ensures) (sym (c .before .before .before .before .before .before .before .before .fails .ensures) ∙ c .before .before .before .before .before .before .before .if4 .left) (c .before .before .before .before .before .before .argument .result) (c .before .before .before .before .before .before .argument .ensures) (c .before .before .before .before .before .check-value .result) (c .before .before .before .before .before .check-value .ensures) (sym (c .before .before .before .before .fails2 .ensures) ∙ c .before .before .before .if5 .left) (c .before .before .class .result) (c .before .before .class .ensures) (sym (c .before .lacks-room .ensures) ∙ c .if6 .taken)
+returns-6 c =
+    let lacks-room = c .before in
+    let class = lacks-room .before in
+    let if5 = class .before in
+    let fails2 = if5 .before in
+    let check-value = fails2 .before in
+    let argument = check-value .before in
+    let if4 = argument .before in
+    let fails = if4 .before in
+    let check-linked = fails .before in
+    let if3 = check-linked .before in
+    let is-busy = if3 .before in
+    let if2 = is-busy .before .before in
+    let has-own = if2 .before in
+    let if1 = has-own .before in
+    let is-listed = if1 .before in
+    let operation-named = is-listed .before in
+    let start = operation-named .before .before .before in
+    invoke-full (start .args .table .now) (start .args .state) (start .args .id .0) (start .args .code) (readPeerLink (start .args .linked))
+    (start .args .value .now) (start .args .room) (operation-named .operation-named .result) (operation-named .operation-named .ensures)
+    (said-yes (is-listed .is-listed .ensures) (if1 .if1 .left)) (sym (has-own .has-own .ensures) ∙ if2 .if2 .left)
+    (sym (is-busy .is-busy .ensures) ∙ if3 .if3 .left) (check-linked .check-linked .result) (check-linked .check-linked .ensures)
+    (sym (fails .fails .ensures) ∙ if4 .if4 .left) (argument .argument .result) (argument .argument .ensures) (check-value .check-value .result)
+    (check-value .check-value .ensures) (sym (fails2 .fails2 .ensures) ∙ if5 .if5 .left) (class .class .result) (class .class .ensures)
+    (sym (lacks-room .lacks-room .ensures) ∙ c .if6 .taken)
 
 link-number-requires : tie.Need-link-number-requires
 link-number-requires c κs = search needs
@@ -70,7 +154,35 @@ check-size-requires : tie.Need-check-size-requires
 check-size-requires c κs = search needs
 
 returns-7 : tie.Need-returns-7
-returns-7 c = invoke-sized ((c .before .before .before .before .before .before .before .before .before .before .before .before .before .before .before .before .before .before .before .before .before .before .before .args .table) .now) (c .before .before .before .before .before .before .before .before .before .before .before .before .before .before .before .before .before .before .before .before .before .before .before .args .state) ((c .before .before .before .before .before .before .before .before .before .before .before .before .before .before .before .before .before .before .before .before .before .before .before .args .id) .0) (c .before .before .before .before .before .before .before .before .before .before .before .before .before .before .before .before .before .before .before .before .before .before .before .args .code) (readPeerLink (c .before .before .before .before .before .before .before .before .before .before .before .before .before .before .before .before .before .before .before .before .before .before .before .args .linked)) ((c .before .before .before .before .before .before .before .before .before .before .before .before .before .before .before .before .before .before .before .before .before .before .before .args .value) .now) (c .before .before .before .before .before .before .before .before .before .before .before .before .before .before .before .before .before .before .before .before .before .before .before .args .room) (c .before .before .before .before .before .before .before .before .before .before .before .before .before .before .before .before .before .before .before .before .operation-named .result) (c .before .before .before .before .before .before .before .before .before .before .before .before .before .before .before .before .before .before .before .before .operation-named .ensures) (said-yes (c .before .before .before .before .before .before .before .before .before .before .before .before .before .before .before .before .before .before .before .is-listed .ensures) (c .before .before .before .before .before .before .before .before .before .before .before .before .before .before .before .before .before .before .if1 .left)) (sym (c .before .before .before .before .before .before .before .before .before .before .before .before .before .before .before .before .before .has-own .ensures) ∙ c .before .before .before .before .before .before .before .before .before .before .before .before .before .before .before .before .if2 .left) (sym (c .before .before .before .before .before .before .before .before .before .before .before .before .before .before .is-busy .ensures) ∙ c .before .before .before .before .before .before .before .before .before .before .before .before .before .if3 .left) (c .before .before .before .before .before .before .before .before .before .before .before .before .check-linked .result) (c .before .before .before .before .before .before .before .before .before .before .before .before .check-linked .ensures) (sym (c .before .before .before .before .before .before .before .before .before .before .before .fails .ensures) ∙ c .before .before .before .before .before .before .before .before .before .before .if4 .left) (c .before .before .before .before .before .before .before .before .before .argument .result) (c .before .before .before .before .before .before .before .before .before .argument .ensures) (c .before .before .before .before .before .before .before .before .check-value .result) (c .before .before .before .before .before .before .before .before .check-value .ensures) (sym (c .before .before .before .before .before .before .before .fails2 .ensures) ∙ c .before .before .before .before .before .before .if5 .left) (c .before .before .before .before .before .class .result) (c .before .before .before .before .before .class .ensures) (sym (c .before .before .before .before .lacks-room .ensures) ∙ c .before .before .before .if6 .left) _ (c .before .before .link-number .result) (c .before .before .link-number .ensures) (c .check-size .ensures (encodeInvoke ((c .before .before .before .before .before .before .before .before .before .before .before .before .before .before .before .before .before .before .before .before .before .before .before .args .id) .0) (c .before .before .link-number .result) (c .before .before .before .before .before .before .before .before .before .before .before .before .before .before .before .before .before .before .before .before .before .before .before .args .code) (given ((c .before .before .before .before .before .before .before .before .before .before .before .before .before .before .before .before .before .before .before .before .before .before .before .args .value) .now))) (c .before .invoke-size .ensures))
+returns-7 c =
+    let invoke-size = c .before in
+    let link-number = invoke-size .before in
+    let if6 = link-number .before in
+    let lacks-room = if6 .before in
+    let class = lacks-room .before in
+    let if5 = class .before in
+    let fails2 = if5 .before in
+    let check-value = fails2 .before in
+    let argument = check-value .before in
+    let if4 = argument .before in
+    let fails = if4 .before in
+    let check-linked = fails .before in
+    let if3 = check-linked .before in
+    let is-busy = if3 .before in
+    let if2 = is-busy .before .before in
+    let has-own = if2 .before in
+    let if1 = has-own .before in
+    let is-listed = if1 .before in
+    let operation-named = is-listed .before in
+    let start = operation-named .before .before .before in
+    invoke-sized (start .args .table .now) (start .args .state) (start .args .id .0) (start .args .code) (readPeerLink (start .args .linked))
+    (start .args .value .now) (start .args .room) (operation-named .operation-named .result) (operation-named .operation-named .ensures)
+    (said-yes (is-listed .is-listed .ensures) (if1 .if1 .left)) (sym (has-own .has-own .ensures) ∙ if2 .if2 .left)
+    (sym (is-busy .is-busy .ensures) ∙ if3 .if3 .left) (check-linked .check-linked .result) (check-linked .check-linked .ensures)
+    (sym (fails .fails .ensures) ∙ if4 .if4 .left) (argument .argument .result) (argument .argument .ensures) (check-value .check-value .result)
+    (check-value .check-value .ensures) (sym (fails2 .fails2 .ensures) ∙ if5 .if5 .left) (class .class .result) (class .class .ensures)
+    (sym (lacks-room .lacks-room .ensures) ∙ if6 .if6 .left) _ (link-number .link-number .result) (link-number .link-number .ensures)
+    (c .check-size .ensures (encodeInvoke (start .args .id .0) (link-number .link-number .result) (start .args .code) (given (start .args .value .now))) (invoke-size .invoke-size .ensures))
 
 pub check-invoke-spec : {M : Type 1} → statement M
 check-invoke-spec = tie.close (tie.spec operation-named-requires is-listed-requires returns has-own-requires returns-2 is-busy-requires returns-3 check-linked-requires fails-requires returns-4 argument-requires check-value-requires fails-requires-2 returns-5 class-requires lacks-room-requires returns-6 link-number-requires invoke-size-requires check-size-requires returns-7)

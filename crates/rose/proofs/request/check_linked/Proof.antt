@@ -18,7 +18,12 @@ has-peer-requires : tie.Need-has-peer-requires
 has-peer-requires c κs = search needs
 
 returns : tie.Need-returns
-returns c = linked-to ((c .before .before .before .before .before .before .args .table) .now) (c .before .before .before .before .before .before .args .state) (c .before .before .before .before .before .before .args .code) (c .before .before .before .before .before .before .args .linked) (c .before .before .before .linked .given .0 .0) _ (cc) (no-parent ((c .before .before .before .before .before .before .args .table) .now) (c .before .before .before .before .before .before .args .state) (c .before .before .before .before .before .before .args .code) (c .before .before .before .linked .given .0 .0 .0) (said-no (c .before .has-peer .ensures) (c .if1 .taken)))
+returns c =
+    let has-peer = c .before in
+    let linked = has-peer .before .before in
+    let start = linked .before .before .before in
+    linked-to (start .args .table .now) (start .args .state) (start .args .code) (start .args .linked) (linked .linked .given .0 .0) _ (cc)
+    (no-parent (start .args .table .now) (start .args .state) (start .args .code) (linked .linked .given .0 .0 .0) (said-no (has-peer .has-peer .ensures) (c .if1 .taken)))
 
 peer-code-requires : tie.Need-peer-code-requires
 peer-code-requires c κs = search needs
@@ -27,13 +32,31 @@ is-child-requires : tie.Need-is-child-requires
 is-child-requires c κs = search needs
 
 returns-2 : tie.Need-returns-2
-returns-2 c = linked-to ((c .before .before .before .before .before .before .before .before .before .args .table) .now) (c .before .before .before .before .before .before .before .before .before .args .state) (c .before .before .before .before .before .before .before .before .before .args .code) (c .before .before .before .before .before .before .before .before .before .args .linked) (c .before .before .before .before .before .before .linked .given .0 .0) _ (cc) (no-child ((c .before .before .before .before .before .before .before .before .before .args .table) .now) (c .before .before .before .before .before .before .before .before .before .args .state) (c .before .before .before .before .before .before .before .before .before .args .code) (c .before .before .before .before .before .before .linked .given .0 .0 .0) (said-yes (c .before .before .before .before .has-peer .ensures) (c .before .before .before .if1 .left)) (moved (λ (k : Code). childOf ((c .before .before .before .before .before .before .before .before .before .args .table) .now) k (c .before .before .before .before .before .before .before .before .before .args .code)) _ _ _ (c .before .before .peer-code .ensures) (said-no (c .before .is-child .ensures .in-valid (c .before .before .before .before .before .before .before .before .before .pre)) (c .if2 .taken))))
+returns-2 c =
+    let is-child = c .before in
+    let peer-code = is-child .before in
+    let if1 = peer-code .before in
+    let has-peer = if1 .before in
+    let linked = has-peer .before .before in
+    let start = linked .before .before .before in
+    linked-to (start .args .table .now) (start .args .state) (start .args .code) (start .args .linked) (linked .linked .given .0 .0) _ (cc)
+    (no-child (start .args .table .now) (start .args .state) (start .args .code) (linked .linked .given .0 .0 .0) (said-yes (has-peer .has-peer .ensures) (if1 .if1 .left)) (moved (λ (k : Code). childOf (start .args .table .now) k (start .args .code)) _ _ _ (peer-code .peer-code .ensures) (said-no (is-child .is-child .ensures .in-valid (start .pre)) (c .if2 .taken))))
 
 returns-3 : tie.Need-returns-3
-returns-3 c = linked-none ((c .before .before .before .args .table) .now) (c .before .before .before .args .state) (c .before .before .before .args .code) (c .before .before .before .args .linked) (cc)
+returns-3 c =
+    let start = c .before .before .before in
+    linked-none (start .args .table .now) (start .args .state) (start .args .code) (start .args .linked) (cc)
 
 returns-4 : tie.Need-returns-4
-returns-4 c = linked-to ((c .before .before .before .before .before .before .before .before .before .args .table) .now) (c .before .before .before .before .before .before .before .before .before .args .state) (c .before .before .before .before .before .before .before .before .before .args .code) (c .before .before .before .before .before .before .before .before .before .args .linked) (c .before .before .before .before .before .before .linked .given .0 .0) _ (cc) (child-linked ((c .before .before .before .before .before .before .before .before .before .args .table) .now) (c .before .before .before .before .before .before .before .before .before .args .state) (c .before .before .before .before .before .before .before .before .before .args .code) (c .before .before .before .before .before .before .linked .given .0 .0 .0) (said-yes (c .before .before .before .before .has-peer .ensures) (c .before .before .before .if1 .left)) (moved (λ (k : Code). childOf ((c .before .before .before .before .before .before .before .before .before .args .table) .now) k (c .before .before .before .before .before .before .before .before .before .args .code)) _ _ _ (c .before .before .peer-code .ensures) (said-yes (c .before .is-child .ensures .in-valid (c .before .before .before .before .before .before .before .before .before .pre)) (c .if2 .left))))
+returns-4 c =
+    let is-child = c .before in
+    let peer-code = is-child .before in
+    let if1 = peer-code .before in
+    let has-peer = if1 .before in
+    let linked = has-peer .before .before in
+    let start = linked .before .before .before in
+    linked-to (start .args .table .now) (start .args .state) (start .args .code) (start .args .linked) (linked .linked .given .0 .0) _ (cc)
+    (child-linked (start .args .table .now) (start .args .state) (start .args .code) (linked .linked .given .0 .0 .0) (said-yes (has-peer .has-peer .ensures) (if1 .if1 .left)) (moved (λ (k : Code). childOf (start .args .table .now) k (start .args .code)) _ _ _ (peer-code .peer-code .ensures) (said-yes (is-child .is-child .ensures .in-valid (start .pre)) (c .if2 .left))))
 
 pub check-linked-spec : {M : Type 1} → statement M
 check-linked-spec = tie.close (tie.spec enum-told enum-known-linked has-peer-requires returns peer-code-requires is-child-requires returns-2 returns-3 returns-4)

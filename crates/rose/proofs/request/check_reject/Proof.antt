@@ -10,22 +10,50 @@ is-user-problem-requires : tie.Need-is-user-problem-requires
 is-user-problem-requires c κs = search needs
 
 returns : tie.Need-returns
-returns c = reject-problem ((c .before .before .before .args .table) .now) (c .before .before .before .args .state) ((c .before .before .before .args .id) .0) (c .before .before .before .args .problem) (c .before .before .before .args .room) (said-no (c .before .is-user-problem .ensures) (c .if1 .taken))
+returns c =
+    let is-user-problem = c .before in
+    let start = is-user-problem .before .before in
+    reject-problem (start .args .table .now) (start .args .state) (start .args .id .0) (start .args .problem) (start .args .room)
+    (said-no (is-user-problem .is-user-problem .ensures) (c .if1 .taken))
 
 has-peer-requires : tie.Need-has-peer-requires
 has-peer-requires c κs = search needs
 
 returns-2 : tie.Need-returns-2
-returns-2 c = reject-unknown ((c .before .before .before .before .before .args .table) .now) (c .before .before .before .before .before .args .state) ((c .before .before .before .before .before .args .id) .0) (c .before .before .before .before .before .args .problem) (c .before .before .before .before .before .args .room) (said-yes (c .before .before .before .is-user-problem .ensures) (c .before .before .if1 .left)) (said-no (c .before .has-peer .ensures) (c .if2 .taken))
+returns-2 c =
+    let has-peer = c .before in
+    let if1 = has-peer .before in
+    let is-user-problem = if1 .before in
+    let start = is-user-problem .before .before in
+    reject-unknown (start .args .table .now) (start .args .state) (start .args .id .0) (start .args .problem) (start .args .room)
+    (said-yes (is-user-problem .is-user-problem .ensures) (if1 .if1 .left)) (said-no (has-peer .has-peer .ensures) (c .if2 .taken))
 
 reject-size-requires : tie.Need-reject-size-requires
 reject-size-requires c κs = search needs
 
 returns-3 : tie.Need-returns-3
-returns-3 c = reject-short ((c .before .before .before .before .before .before .before .args .table) .now) (c .before .before .before .before .before .before .before .args .state) ((c .before .before .before .before .before .before .before .args .id) .0) (c .before .before .before .before .before .before .before .args .problem) (c .before .before .before .before .before .before .before .args .room) (said-yes (c .before .before .before .before .before .is-user-problem .ensures) (c .before .before .before .before .if1 .left)) (said-yes (c .before .before .before .has-peer .ensures) (c .before .before .if2 .left)) _ (c .before .reject-size .ensures 0x81 (c .before .before .before .before .before .before .before .args .problem)) (c .if3 .taken)
+returns-3 c =
+    let reject-size = c .before in
+    let if2 = reject-size .before in
+    let has-peer = if2 .before in
+    let if1 = has-peer .before in
+    let is-user-problem = if1 .before in
+    let start = is-user-problem .before .before in
+    reject-short (start .args .table .now) (start .args .state) (start .args .id .0) (start .args .problem) (start .args .room)
+    (said-yes (is-user-problem .is-user-problem .ensures) (if1 .if1 .left)) (said-yes (has-peer .has-peer .ensures) (if2 .if2 .left)) _
+    (reject-size .reject-size .ensures 0x81 (start .args .problem)) (c .if3 .taken)
 
 returns-4 : tie.Need-returns-4
-returns-4 c = reject-fits ((c .before .before .before .before .before .before .before .args .table) .now) (c .before .before .before .before .before .before .before .args .state) ((c .before .before .before .before .before .before .before .args .id) .0) (c .before .before .before .before .before .before .before .args .problem) (c .before .before .before .before .before .before .before .args .room) (said-yes (c .before .before .before .before .before .is-user-problem .ensures) (c .before .before .before .before .if1 .left)) (said-yes (c .before .before .before .has-peer .ensures) (c .before .before .if2 .left)) _ (c .before .reject-size .ensures 0x81 (c .before .before .before .before .before .before .before .args .problem)) (omega arith)
+returns-4 c =
+    let reject-size = c .before in
+    let if2 = reject-size .before in
+    let has-peer = if2 .before in
+    let if1 = has-peer .before in
+    let is-user-problem = if1 .before in
+    let start = is-user-problem .before .before in
+    reject-fits (start .args .table .now) (start .args .state) (start .args .id .0) (start .args .problem) (start .args .room)
+    (said-yes (is-user-problem .is-user-problem .ensures) (if1 .if1 .left)) (said-yes (has-peer .has-peer .ensures) (if2 .if2 .left)) _
+    (reject-size .reject-size .ensures 0x81 (start .args .problem)) (omega arith)
 
 pub check-reject-spec : {M : Type 1} → statement M
 check-reject-spec = tie.close (tie.spec is-user-problem-requires returns has-peer-requires returns-2 reject-size-requires returns-3 returns-4)

@@ -17,7 +17,11 @@ has-peer-requires : tie.Need-has-peer-requires
 has-peer-requires c κs = search needs
 
 returns : tie.Need-returns
-returns c = result-unknown ((c .before .before .before .before .args .table) .now) (c .before .before .before .before .args .state) ((c .before .before .before .before .args .id) .0) ((c .before .before .before .before .args .value) .now) (c .before .before .before .before .args .room) (said-no (c .before .has-peer .ensures) (c .if1 .taken))
+returns c =
+    let has-peer = c .before in
+    let start = has-peer .before .before .before in
+    result-unknown (start .args .table .now) (start .args .state) (start .args .id .0) (start .args .value .now) (start .args .room)
+    (said-no (has-peer .has-peer .ensures) (c .if1 .taken))
 
 peer-code-requires : tie.Need-peer-code-requires
 peer-code-requires c κs = search needs
@@ -32,7 +36,18 @@ is-class-requires : tie.Need-is-class-requires
 is-class-requires c κs = search needs
 
 returns-2 : tie.Need-returns-2
-returns-2 c = result-class ((c .before .before .before .before .before .before .before .before .before .args .table) .now) (c .before .before .before .before .before .before .before .before .before .args .state) ((c .before .before .before .before .before .before .before .before .before .args .id) .0) ((c .before .before .before .before .before .before .before .before .before .args .value) .now) (c .before .before .before .before .before .before .before .before .before .args .room) (said-yes (c .before .before .before .before .before .before .has-peer .ensures) (c .before .before .before .before .before .if1 .left)) (c .before .before .before .operation-named .result) (c .before .before .before .operation-named .ensures ∙ ap (operationOf ((c .before .before .before .before .before .before .before .before .before .args .table) .now)) (c .before .before .before .before .peer-code .ensures)) (ap (isClass 3 5) (sym (c .before .before .class .ensures)) ∙ (sym (c .before .is-class .ensures) ∙ c .if2 .taken))
+returns-2 c =
+    let is-class = c .before in
+    let class = is-class .before in
+    let operation-named = class .before in
+    let peer-code = operation-named .before in
+    let if1 = peer-code .before in
+    let has-peer = if1 .before in
+    let start = has-peer .before .before .before in
+    result-class (start .args .table .now) (start .args .state) (start .args .id .0) (start .args .value .now) (start .args .room)
+    (said-yes (has-peer .has-peer .ensures) (if1 .if1 .left)) (operation-named .operation-named .result)
+    (operation-named .operation-named .ensures ∙ ap (operationOf (start .args .table .now)) (peer-code .peer-code .ensures))
+    (ap (isClass 3 5) (sym (class .class .ensures)) ∙ (sym (is-class .is-class .ensures) ∙ c .if2 .taken))
 
 result-requires : tie.Need-result-requires
 result-requires c κs = search needs
@@ -44,7 +59,23 @@ fails-requires : tie.Need-fails-requires
 fails-requires c κs = search needs
 
 returns-3 : tie.Need-returns-3
-returns-3 c = result-value ((c .before .before .before .before .before .before .before .before .before .before .before .before .before .args .table) .now) (c .before .before .before .before .before .before .before .before .before .before .before .before .before .args .state) ((c .before .before .before .before .before .before .before .before .before .before .before .before .before .args .id) .0) ((c .before .before .before .before .before .before .before .before .before .before .before .before .before .args .value) .now) (c .before .before .before .before .before .before .before .before .before .before .before .before .before .args .room) (said-yes (c .before .before .before .before .before .before .before .before .before .before .has-peer .ensures) (c .before .before .before .before .before .before .before .before .before .if1 .left)) (c .before .before .before .before .before .before .before .operation-named .result) (c .before .before .before .before .before .before .before .operation-named .ensures ∙ ap (operationOf ((c .before .before .before .before .before .before .before .before .before .before .before .before .before .args .table) .now)) (c .before .before .before .before .before .before .before .before .peer-code .ensures)) (ap (isClass 3 5) (sym (c .before .before .before .before .before .before .class .ensures)) ∙ (sym (c .before .before .before .before .before .is-class .ensures) ∙ c .before .before .before .before .if2 .left)) (c .before .before .before .result .result) (c .before .before .before .result .ensures) (c .before .before .check-value .result) (c .before .before .check-value .ensures) (sym (c .before .fails .ensures) ∙ c .if3 .taken)
+returns-3 c =
+    let fails = c .before in
+    let check-value = fails .before in
+    let result = check-value .before in
+    let if2 = result .before in
+    let is-class = if2 .before in
+    let class = is-class .before in
+    let operation-named = class .before in
+    let peer-code = operation-named .before in
+    let if1 = peer-code .before in
+    let has-peer = if1 .before in
+    let start = has-peer .before .before .before in
+    result-value (start .args .table .now) (start .args .state) (start .args .id .0) (start .args .value .now) (start .args .room)
+    (said-yes (has-peer .has-peer .ensures) (if1 .if1 .left)) (operation-named .operation-named .result)
+    (operation-named .operation-named .ensures ∙ ap (operationOf (start .args .table .now)) (peer-code .peer-code .ensures))
+    (ap (isClass 3 5) (sym (class .class .ensures)) ∙ (sym (is-class .is-class .ensures) ∙ if2 .if2 .left)) (result .result .result)
+    (result .result .ensures) (check-value .check-value .result) (check-value .check-value .ensures) (sym (fails .fails .ensures) ∙ c .if3 .taken)
 
 result-size-requires : tie.Need-result-size-requires
 result-size-requires c κs = search needs
@@ -54,8 +85,26 @@ check-size-requires c κs = search needs
 
 returns-4 : tie.Need-returns-4
 returns-4 c =
-    result-sized ((c .before .before .before .before .before .before .before .before .before .before .before .before .before .before .before .args .table) .now) (c .before .before .before .before .before .before .before .before .before .before .before .before .before .before .before .args .state) ((c .before .before .before .before .before .before .before .before .before .before .before .before .before .before .before .args .id) .0) ((c .before .before .before .before .before .before .before .before .before .before .before .before .before .before .before .args .value) .now) (c .before .before .before .before .before .before .before .before .before .before .before .before .before .before .before .args .room) (said-yes (c .before .before .before .before .before .before .before .before .before .before .before .before .has-peer .ensures) (c .before .before .before .before .before .before .before .before .before .before .before .if1 .left)) (c .before .before .before .before .before .before .before .before .before .operation-named .result) (c .before .before .before .before .before .before .before .before .before .operation-named .ensures ∙ ap (operationOf ((c .before .before .before .before .before .before .before .before .before .before .before .before .before .before .before .args .table) .now)) (c .before .before .before .before .before .before .before .before .before .before .peer-code .ensures)) (ap (isClass 3 5) (sym (c .before .before .before .before .before .before .before .before .class .ensures)) ∙ (sym (c .before .before .before .before .before .before .before .is-class .ensures) ∙ c .before .before .before .before .before .before .if2 .left)) (c .before .before .before .before .before .result .result) (c .before .before .before .before .before .result .ensures) (c .before .before .before .before .check-value .result) (c .before .before .before .before .check-value .ensures) (sym (c .before .before .before .fails .ensures) ∙ c .before .before .if3 .left) _
-    (c .check-size .ensures (resultApdu (c .before .before .before .before .before .before .before .before .before .before .before .before .before .before .before .args .state) ((c .before .before .before .before .before .before .before .before .before .before .before .before .before .before .before .args .id) .0) ((c .before .before .before .before .before .before .before .before .before .before .before .before .before .before .before .args .value) .now)) (c .before .result-size .ensures ∙ ap (λ (k : Code). length (encodeResult ((c .before .before .before .before .before .before .before .before .before .before .before .before .before .before .before .args .id) .0) k (given ((c .before .before .before .before .before .before .before .before .before .before .before .before .before .before .before .args .value) .now)))) (c .before .before .before .before .before .before .before .before .before .before .peer-code .ensures)))
+    let result-size = c .before in
+    let if3 = result-size .before in
+    let fails = if3 .before in
+    let check-value = fails .before in
+    let result = check-value .before in
+    let if2 = result .before in
+    let is-class = if2 .before in
+    let class = is-class .before in
+    let operation-named = class .before in
+    let peer-code = operation-named .before in
+    let if1 = peer-code .before in
+    let has-peer = if1 .before in
+    let start = has-peer .before .before .before in
+    result-sized (start .args .table .now) (start .args .state) (start .args .id .0) (start .args .value .now) (start .args .room)
+    (said-yes (has-peer .has-peer .ensures) (if1 .if1 .left)) (operation-named .operation-named .result)
+    (operation-named .operation-named .ensures ∙ ap (operationOf (start .args .table .now)) (peer-code .peer-code .ensures))
+    (ap (isClass 3 5) (sym (class .class .ensures)) ∙ (sym (is-class .is-class .ensures) ∙ if2 .if2 .left)) (result .result .result)
+    (result .result .ensures) (check-value .check-value .result) (check-value .check-value .ensures) (sym (fails .fails .ensures) ∙ if3 .if3 .left) _
+    (c .check-size .ensures (resultApdu (start .args .state) (start .args .id .0) (start .args .value .now))
+    (result-size .result-size .ensures ∙ ap (λ (k : Code). length (encodeResult (start .args .id .0) k (given (start .args .value .now)))) (peer-code .peer-code .ensures)))
 
 pub check-result-spec : {M : Type 1} → statement M
 check-result-spec = tie.close (tie.spec has-peer-requires returns peer-code-requires operation-named-requires class-requires is-class-requires returns-2 result-requires check-value-requires fails-requires returns-3 result-size-requires check-size-requires returns-4)

@@ -15,10 +15,18 @@ value-right-requires : tie.Need-value-right-requires
 value-right-requires c κs = search needs
 
 returns-2 : tie.Need-returns-2
-returns-2 c = mistyped-value _ _ (said-yes (c .before .before .before .is-well .ensures) (c .before .before .if1 .left)) (said-no (c .before .value-right .ensures) (c .if2 .taken))
+returns-2 c =
+    let value-right = c .before in
+    let if1 = value-right .before in
+    let is-well = if1 .before in
+    mistyped-value _ _ (said-yes (is-well .is-well .ensures) (if1 .if1 .left)) (said-no (value-right .value-right .ensures) (c .if2 .taken))
 
 returns-3 : tie.Need-returns-3
-returns-3 c = right-value _ _ (said-yes (c .before .before .before .is-well .ensures) (c .before .before .if1 .left)) (said-yes (c .before .value-right .ensures) (c .if2 .left))
+returns-3 c =
+    let value-right = c .before in
+    let if1 = value-right .before in
+    let is-well = if1 .before in
+    right-value _ _ (said-yes (is-well .is-well .ensures) (if1 .if1 .left)) (said-yes (value-right .value-right .ensures) (c .if2 .left))
 
 pub check-value-spec : {M : Type 1} → statement M
 check-value-spec =

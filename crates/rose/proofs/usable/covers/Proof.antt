@@ -37,8 +37,11 @@ is-listed-requires c κs = search needs
 
 returns : tie.Need-returns Inv-loop μ-loop
 returns c =
-    let a = c .before .before .before .before .before in
-    sym (a .loop .inv .1 ∙ covered-not _ (a .before .before .before .args .t2) (a .loop .i) (omega arith) _ (c .before .before .operation-named .ensures) (said-no (c .before .is-listed .ensures) (c .if1 .taken)))
+    let is-listed = c .before in
+    let operation-named = is-listed .before in
+    let a = operation-named .before .before .before in
+    sym (a .loop .inv .1 ∙ covered-not _ (a .before .before .before .args .t2) (a .loop .i) (omega arith) _
+    (operation-named .operation-named .ensures) (said-no (is-listed .is-listed .ensures) (c .if1 .taken)))
 
 add-i : tie.Need-add-i Inv-loop μ-loop
 add-i c = omega arith
@@ -48,8 +51,13 @@ loop-less c = omega arith
 
 loop-again : tie.Need-loop-again Inv-loop μ-loop
 loop-again c =
-    let a = c .before .before .before .before .before in
-    (omega arith, a .loop .inv .1 ∙ covered-next _ (a .before .before .before .args .t2) (a .loop .i) (omega arith) _ (c .before .before .operation-named .ensures) (said-yes (c .before .is-listed .ensures) (c .if1 .left)))
+    let is-listed = c .before in
+    let operation-named = is-listed .before in
+    let a = operation-named .before .before .before in (
+      omega arith,
+      a .loop .inv .1 ∙ covered-next _ (a .before .before .before .args .t2) (a .loop .i) (omega arith) _
+          (operation-named .operation-named .ensures) (said-yes (is-listed .is-listed .ensures) (c .if1 .left)),
+    )
 
 returns-2 : tie.Need-returns-2 Inv-loop μ-loop
 returns-2 c =

@@ -14,7 +14,10 @@ is-found-requires : tie.Need-is-found-requires
 is-found-requires c κs = search needs
 
 returns : tie.Need-returns
-returns c = c .is-found .ensures ∙ (ap isFound (c .before .find-own .ensures .found) ∙ found-member ((c .before .before .args .id) .0) (ownRecords (c .before .before .args .state)))
+returns c =
+    let find-own = c .before in
+    let start = find-own .before in
+    c .is-found .ensures ∙ (ap isFound (find-own .find-own .ensures .found) ∙ found-member (start .args .id .0) (ownRecords (start .args .state)))
 
 pub has-own-spec : {M : Type 1} → statement M
 has-own-spec = tie.close (tie.spec find-own-requires is-found-requires returns)

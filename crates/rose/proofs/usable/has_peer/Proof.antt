@@ -14,7 +14,10 @@ is-found-requires : tie.Need-is-found-requires
 is-found-requires c κs = search needs
 
 returns : tie.Need-returns
-returns c = c .is-found .ensures ∙ (ap isFound (c .before .find-peer .ensures .found) ∙ found-member ((c .before .before .args .id) .0) (peerRecords (c .before .before .args .state)))
+returns c =
+    let find-peer = c .before in
+    let start = find-peer .before in
+    c .is-found .ensures ∙ (ap isFound (find-peer .find-peer .ensures .found) ∙ found-member (start .args .id .0) (peerRecords (start .args .state)))
 
 pub has-peer-spec : {M : Type 1} → statement M
 has-peer-spec = tie.close (tie.spec find-peer-requires is-found-requires returns)

@@ -36,8 +36,10 @@ class-requires c κs = search needs
 
 returns : tie.Need-returns Inv-loop μ-loop
 returns c =
-    let a = c .before .before .before .before .before in
-    sym (a .loop .inv .1 ∙ busy-here _ (a .before .before .before .args .t2) (a .loop .i) (omega arith) _ (c .before .before .operation-named .ensures) (cc))
+    let operation-named = c .before .before in
+    let a = operation-named .before .before .before in
+    sym (a .loop .inv .1 ∙ busy-here _ (a .before .before .before .args .t2) (a .loop .i) (omega arith) _ (operation-named .operation-named .ensures)
+    (cc))
 
 add-i : tie.Need-add-i Inv-loop μ-loop
 add-i c = omega arith
@@ -47,8 +49,12 @@ loop-less c = omega arith
 
 loop-again : tie.Need-loop-again Inv-loop μ-loop
 loop-again c =
-    let a = c .before .before .before .before .before in
-    (omega arith, a .loop .inv .1 ∙ busy-next _ (a .before .before .before .args .t2) (a .loop .i) (omega arith) _ (c .before .before .operation-named .ensures) (λ q. c .if1 .left (cc)))
+    let operation-named = c .before .before in
+    let a = operation-named .before .before .before in (
+      omega arith,
+      a .loop .inv .1 ∙ busy-next _ (a .before .before .before .args .t2) (a .loop .i) (omega arith) _
+          (operation-named .operation-named .ensures) (λ q. c .if1 .left (cc)),
+    )
 
 returns-2 : tie.Need-returns-2 Inv-loop μ-loop
 returns-2 c =

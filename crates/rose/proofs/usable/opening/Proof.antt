@@ -9,28 +9,67 @@ sound-requires : tie.Need-sound-requires
 sound-requires c κs = search needs
 
 returns : tie.Need-returns
-returns c = unsound ((c .before .before .before .args .table) .now) (c .before .before .before .args .state) (said-no (c .before .sound .ensures .says) (c .if1 .taken))
+returns c =
+    let sound = c .before in
+    let start = sound .before .before in
+    unsound (start .args .table .now) (start .args .state) (said-no (sound .sound .ensures .says) (c .if1 .taken))
 
 valid-requires : tie.Need-valid-requires
 valid-requires c κs = search needs
 
 returns-2 : tie.Need-returns-2
-returns-2 c = invalid ((c .before .before .before .before .before .args .table) .now) (c .before .before .before .before .before .args .state) (said-yes (c .before .before .before .sound .ensures .says) (c .before .before .if1 .left)) (said-no (c .before .valid .ensures) (c .if2 .taken))
+returns-2 c =
+    let valid = c .before in
+    let if1 = valid .before in
+    let sound = if1 .before in
+    let start = sound .before .before in
+    invalid (start .args .table .now) (start .args .state) (said-yes (sound .sound .ensures .says) (if1 .if1 .left))
+    (said-no (valid .valid .ensures) (c .if2 .taken))
 
 covers-requires : tie.Need-covers-requires
 covers-requires c κs = (said-yes (c .before .before .valid .ensures) (c .before .if2 .left))
 
 returns-3 : tie.Need-returns-3
-returns-3 c = own-lacking ((c .before .before .before .before .before .before .before .before .args .table) .now) (c .before .before .before .before .before .before .before .before .args .state) (said-yes (c .before .before .before .before .before .before .sound .ensures .says) (c .before .before .before .before .before .if1 .left)) (said-yes (c .before .before .before .before .valid .ensures) (c .before .before .before .if2 .left)) (said-no (c .before .covers .ensures) (c .if3 .taken))
+returns-3 c =
+    let covers = c .before in
+    let if2 = covers .before .before in
+    let valid = if2 .before in
+    let if1 = valid .before in
+    let sound = if1 .before in
+    let start = sound .before .before in
+    own-lacking (start .args .table .now) (start .args .state) (said-yes (sound .sound .ensures .says) (if1 .if1 .left))
+    (said-yes (valid .valid .ensures) (if2 .if2 .left)) (said-no (covers .covers .ensures) (c .if3 .taken))
 
 covers-requires-2 : tie.Need-covers-requires-2
 covers-requires-2 c κs = (said-yes (c .before .before .before .before .before .valid .ensures) (c .before .before .before .before .if2 .left))
 
 returns-4 : tie.Need-returns-4
-returns-4 c = peer-lacking ((c .before .before .before .before .before .before .before .before .before .before .before .args .table) .now) (c .before .before .before .before .before .before .before .before .before .before .before .args .state) (said-yes (c .before .before .before .before .before .before .before .before .before .sound .ensures .says) (c .before .before .before .before .before .before .before .before .if1 .left)) (said-yes (c .before .before .before .before .before .before .before .valid .ensures) (c .before .before .before .before .before .before .if2 .left)) (said-yes (c .before .before .before .before .covers .ensures) (c .before .before .before .if3 .left)) (said-no (c .before .covers2 .ensures) (c .if4 .taken))
+returns-4 c =
+    let covers2 = c .before in
+    let if3 = covers2 .before .before in
+    let covers = if3 .before in
+    let if2 = covers .before .before in
+    let valid = if2 .before in
+    let if1 = valid .before in
+    let sound = if1 .before in
+    let start = sound .before .before in
+    peer-lacking (start .args .table .now) (start .args .state) (said-yes (sound .sound .ensures .says) (if1 .if1 .left))
+    (said-yes (valid .valid .ensures) (if2 .if2 .left)) (said-yes (covers .covers .ensures) (if3 .if3 .left))
+    (said-no (covers2 .covers2 .ensures) (c .if4 .taken))
 
 returns-5 : tie.Need-returns-5
-returns-5 c = all-clear ((c .before .before .before .before .before .before .before .before .before .before .before .args .table) .now) (c .before .before .before .before .before .before .before .before .before .before .before .args .state) (said-yes (c .before .before .before .before .before .before .before .before .before .sound .ensures .says) (c .before .before .before .before .before .before .before .before .if1 .left)) (said-yes (c .before .before .before .before .before .before .before .valid .ensures) (c .before .before .before .before .before .before .if2 .left)) (said-yes (c .before .before .before .before .covers .ensures) (c .before .before .before .if3 .left)) (said-yes (c .before .covers2 .ensures) (c .if4 .left))
+returns-5 c =
+    let covers2 = c .before in
+    let if3 = covers2 .before .before in
+    let covers = if3 .before in
+    let if2 = covers .before .before in
+    let valid = if2 .before in
+    let if1 = valid .before in
+    let sound = if1 .before in
+    let start = sound .before .before in
+    all-clear (start .args .table .now) (start .args .state) (said-yes (sound .sound .ensures .says) (if1 .if1 .left))
+    (said-yes (valid .valid .ensures) (if2 .if2 .left)) (said-yes (covers .covers .ensures) (if3 .if3 .left))
+    (said-yes (covers2 .covers2 .ensures) (c .if4 .left))
 
 pub opening-spec : {M : Type 1} → statement M
 opening-spec = tie.close (tie.spec sound-requires returns valid-requires returns-2 covers-requires returns-3 covers-requires-2 returns-4 returns-5)

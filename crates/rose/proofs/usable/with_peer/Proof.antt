@@ -1,5 +1,5 @@
 -- Class 5 makes no record.
-use Rattle.rose.proofs.UsableAnswers.{peer-silent, peer-recorded}
+use Rattle.rose.proofs.UsableAnswers.{no-record, one-record}
 use mathlib.Core.Path.{_∙_}
 use borrow.Author.Needs.{needs}
 use Rattle.rose.proofs.usable.with_peer.Statement.{statement}
@@ -12,13 +12,13 @@ class-requires : tie.Need-class-requires
 class-requires c κs = search needs
 
 returns : tie.Need-returns
-returns c = peer-silent _ _ _ _ _ (c .before .before .operation-named .ensures) (cc)
+returns c = no-record _ _ _ _ (c .before .before .operation-named .ensures) _ (cc)
 
 add-peer-requires : tie.Need-add-peer-requires
 add-peer-requires c κs = search needs
 
 returns-2 : tie.Need-returns-2
-returns-2 c = c .add-peer .ensures ∙ peer-recorded _ _ _ _ _ (c .before .before .before .operation-named .ensures) (λ q. c .before .if1 .left (cc))
+returns-2 c = c .add-peer .ensures ∙ one-record _ _ _ _ (c .before .before .before .operation-named .ensures) _ (λ q. c .before .if1 .left (cc))
 
 pub with-peer-spec : {M : Type 1} → statement M
 with-peer-spec =
