@@ -127,6 +127,19 @@ fn user_reject_line(line: &mut [u8], id: u32, kind: u8, problem: u8) -> usize {
     problem_line(line, b, kind, problem)
 }
 
+fn general_reject_line(line: &mut [u8], id: Number, problem: u8) -> usize {
+    let a = words(line, 0, b"reject-p");
+    let b = number_line(line, a, id);
+    problem_line(line, b, 0x80, problem)
+}
+
+fn result_line(line: &mut [u8], x: &[u8], id: u32, body: Body, operation: u32) -> usize {
+    let a = words(line, 0, b"result");
+    let b = word_line(line, a, id);
+    let c = body_line(line, b, x, body);
+    operation_line(line, c, operation)
+}
+
 fn indication_line(line: &mut [u8], x: &[u8], said: Indication) -> usize {
     match said {
         Indication::Invoke {
@@ -145,12 +158,7 @@ fn indication_line(line: &mut [u8], x: &[u8], said: Indication) -> usize {
             id,
             body,
             operation,
-        } => {
-            let a = words(line, 0, b"result");
-            let b = word_line(line, a, id.0);
-            let c = body_line(line, b, x, body);
-            operation_line(line, c, operation.0)
-        }
+        } => result_line(line, x, id.0, body, operation.0),
         Indication::Error {
             id,
             code,
@@ -166,11 +174,7 @@ fn indication_line(line: &mut [u8], x: &[u8], said: Indication) -> usize {
         Indication::InvokeRejected { id, problem } => user_reject_line(line, id.0, 0x81, problem),
         Indication::ResultRejected { id, problem } => user_reject_line(line, id.0, 0x82, problem),
         Indication::ErrorRejected { id, problem } => user_reject_line(line, id.0, 0x83, problem),
-        Indication::GeneralReject { id, problem } => {
-            let a = words(line, 0, b"reject-p");
-            let b = number_line(line, a, id);
-            problem_line(line, b, 0x80, problem)
-        }
+        Indication::GeneralReject { id, problem } => general_reject_line(line, id, problem),
     }
 }
 

@@ -152,6 +152,31 @@ fn imaged(payload: &[u8], s: Session) -> Session {
     }
 }
 
+// A call, if the table and the room fit their buffers.
+fn called(
+    f: Frame,
+    table: &[u8],
+    payload: &[u8],
+    out: &mut [u8],
+    line: &mut [u8],
+    s: Session,
+) -> Session {
+    let room = f.room;
+    let table_len = s.table_len;
+    if table_len <= table.len() {
+        if room <= out.len() {
+            let lent = &table[0..table_len];
+            let state = call(f, s.state, lent, payload, &mut out[0..room], line);
+            return Session {
+                more: true,
+                table_len,
+                state,
+            };
+        }
+    }
+    ended(s)
+}
+
 // A frame whose payload was read.
 fn act(
     f: Frame,
@@ -162,14 +187,12 @@ fn act(
     s: Session,
 ) -> Session {
     let kind = f.kind;
-    let room = f.room;
-    let table_len = s.table_len;
-    let state = s.state;
     if kind == 0 {
-        let n = words(table, 0, payload);
+        let state = s.state;
+        let table_len = words(table, 0, payload);
         return Session {
             more: true,
-            table_len: n,
+            table_len,
             state,
         };
     }
@@ -179,24 +202,7 @@ fn act(
     if 7 < kind {
         return ended(s);
     }
-    if table_len <= table.len() {
-        if room <= out.len() {
-            let state = call(
-                f,
-                state,
-                &table[0..table_len],
-                payload,
-                &mut out[0..room],
-                line,
-            );
-            return Session {
-                more: true,
-                table_len,
-                state,
-            };
-        }
-    }
-    ended(s)
+    called(f, table, payload, out, line, s)
 }
 
 fn turn(
