@@ -1,14 +1,28 @@
+# make demo: proves the library and runs a kiosk and a controller.
 # make test: proves every crate, tries the must-fail edits, runs the programs, then tests the second program and compares it with drive.
-# The last line is rt ci's 'N passed, 0 failed'; on a failure it is 'make test: failed'.
+# Its last line is rt ci's 'N passed, 0 failed'; on a failure it is 'make test: failed'.
 SHELL := bash
 .SHELLFLAGS := -euo pipefail -c
 .ONESHELL:
-.PHONY: test
+.PHONY: demo test
+
+need = need() { command -v "$$1" >/dev/null || { echo "make $@: the command $$1 is missing: $$2"; exit 1; }; }
+kit = need rt "install the Rattle kit and put its bin folder on PATH"
+
+demo:
+	@$(need)
+	$(kit)
+	log=$$(mktemp)
+	trap 'rm -f "$$log"' EXIT
+	echo "make demo: each crate is proved from nothing before demo is built, some six minutes on 2 cores; the next time it starts at once."
+	rt check demo 2>&1 | tee "$$log" | { grep --line-buffered '^rt: .* proved' || true; } || { cat "$$log"; echo "make demo: failed"; exit 1; }
+	echo
+	target/bin/demo
 
 test:
 	@trap 'code=$$?; rm -f "$${log:-}"; [ $$code = 0 ] || echo "make test: failed"' EXIT
-	need() { command -v "$$1" >/dev/null || { echo "make test: the command $$1 is missing: $$2"; exit 1; }; }
-	need rt "install the Rattle kit and put its bin folder on PATH"
+	$(need)
+	$(kit)
 	need cargo "install Rust; no crate is fetched"
 	log=$$(mktemp)
 	rt ci 2>&1 | tee "$$log"

@@ -106,13 +106,6 @@ contents-cons d s n q =
 pub contents-fault : (d : ℕ) (s : List ℕ) → 1 ≤ length s → elementOf d s ≡ Fault → contentsOf d s ≡ false
 contents-fault d s h e = elements-fault (elementOf d) s h e
 
-pub contents-first : (d : ℕ) (s : List ℕ) → 1 ≤ length s → contentsOf d s ≡ true → (n : ℕ) × (size d s ≡ some n) × (contentsOf d (drop n s) ≡ true)
-contents-first d s h q = go (elementOf d s) refl
-  where
-    go : (r : Checked) → elementOf d s ≡ r → (n : ℕ) × (size d s ≡ some n) × (contentsOf d (drop n s) ≡ true)
-    go Fault e = let f : contentsOf d s ≡ false = contents-fault d s h e in let z : _≡_ {A = ℕ} 0 1 = cc in absurd (omega arith)
-    go (Good n) e = (n, good-size d s n e, sym (contents-cons d s n (good-size d s n e)) ∙ q)
-
 -- ---- an element, as what makes it one
 
 pub record Element (d : ℕ) (s : List ℕ) (n : ℕ) : Type 0 where

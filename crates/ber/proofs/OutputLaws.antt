@@ -9,9 +9,9 @@ use native.Mathlib.Omega.{arith}
 use lib.ListN.{length, getD, take, drop, set, length-append}
 use lib.Seq.{sets, sets-eq, drop-cons, length-sets}
 use borrow.Author.Tests.{le-leb, lt-leb, leb-true, leb-false}
-use Rattle.base.proofs.Tests.{cond-elim, cond-true, cond-false}
+use Rattle.base.proofs.Tests.{cond-true, cond-false}
 use Rattle.ber.specs.Header.{digits}
-use Rattle.ber.specs.Output.{hasRoom, placed, placeBehind, Put, Stored}
+use Rattle.ber.specs.Output.{placed, placeBehind, Put, Stored}
 
 -- ---- with room, and without
 
@@ -44,15 +44,6 @@ put-not o at e h = record {
   next = cond-false (at + length e) at (lt-leb (at + length e) (length o) h);
 }
 
--- the output keeps its length
-pub put-kept : {o : List ℕ} {at : ℕ} {e p : List ℕ} {r : ℕ} → Put o at e p r → length p ≡ length o
-unfolding placed
-put-kept {o} {at} {e} {p} {r} x =
-    ap length (x .octets)
-    ∙ cond-elim (λ (q : List ℕ). length q ≡ length o) (hasRoom o at (length e)) (take at o ++ e ++ drop (at + length e) o) o
-    (λ b. ap length (sym (sets-eq e o at (leb-true (at + length e) (length o) b))) ∙ length-sets o at e)
-    (λ _. refl)
-
 -- ---- one behind the other
 
 sets-append : (o : List ℕ) (at : ℕ) (e f : List ℕ) → sets o at (e ++ f) ≡ sets (sets o at e) (at + length e) f
@@ -77,12 +68,6 @@ stored-as {o} {at} {e} {f} {p} {r} q x = subst (λ (l : List ℕ). Stored o at l
 
 pub stored-kept : {o : List ℕ} {at : ℕ} {e p : List ℕ} {r : ℕ} → Stored o at e p r → length p ≡ length o
 stored-kept {o} {at} {e} {p} {r} x = ap length (x .octets) ∙ length-sets o at e
-
-pub put-put : {o : List ℕ} {at : ℕ} {e p : List ℕ} {r : ℕ} {f q : List ℕ} {t : ℕ} → at + length e + length f ≤ length o → Put o at e p r → Put p r f q t → Put o at (e ++ f) q t
-put-put {o} {at} {e} {p} {r} {f} {q} {t} h x y =
-    let u : Stored o at e p r = put-stored o at e (omega arith) x in
-    let w : r + length f ≤ length p = omega (arith, u .next, put-kept x) in
-    stored-put o at (e ++ f) (omega (arith, length-append e f)) (stored-stored u (put-stored p r f w y))
 
 -- what was written from the front on, then what stood behind
 pub put-front : {o e p : List ℕ} {r : ℕ} → length e ≤ length o → Put o 0 e p r → p ≡ e ++ drop (length e) o

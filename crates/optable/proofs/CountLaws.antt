@@ -21,10 +21,6 @@ below-or-last i n p = go (ltb i n) refl
 module _ (P : ℕ → Bool) where
   -- ---- every
 
-  pub every-step : (i : ℕ) → every P i ≡ true → P i ≡ true → every P (i + 1) ≡ true
-  unfolding every
-  every-step i e f = rw add-one (and-true e f)
-
   pub every-broken : (n i : ℕ) → i < n → P i ≡ false → every P n ≡ false
   unfolding every
   every-broken zero i p f = absurd (omega arith)

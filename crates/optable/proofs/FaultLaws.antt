@@ -11,7 +11,7 @@ use Rattle.optable.specs.declared.Part.the-variants.{Operations, Errors,
 use Rattle.optable.specs.declared.Place.{Place}
 use Rattle.optable.specs.declared.Place.the-variants.{At, Nowhere}
 use Rattle.optable.specs.declared.Fault.{Fault}
-use Rattle.optable.specs.declared.Fault.the-variants.{Nothing, Layout, Count, Entry}
+use Rattle.optable.specs.declared.Fault.the-variants.{Layout, Count}
 use Rattle.optable.specs.Count.{every, seek}
 use Rattle.optable.specs.Read.{count}
 use Rattle.optable.specs.Validity.{withinLimit, laidOut, entryRight, partRight, valid}

@@ -1,7 +1,6 @@
 pub mod CountLaws
 pub mod ListLaws
 pub mod TableLaws
-pub mod FieldLaws
 pub mod OrderLaws
 mod FaultLaws
 mod ReadAnswers

@@ -136,15 +136,6 @@ module _ (t : List ℕ) (v : valid t ≡ true) where
   pub paired-listed : (c e : Code) → paired t c e ≡ true → listed (operationOf t c) ≡ true
   paired-listed c e h = joined-operation ErrorPairs refl c e h .0
 
-  pub child-listed : (c d : Code) → childOf t c d ≡ true → listed (operationOf t d) ≡ true
-  unfolding joined joins operationAt
-  child-listed c d h =
-      let a = any-where (joins t ChildPairs c d) (count t ChildPairs) h in
-      rw (operation-at (secondAt t ChildPairs (a .0)) d (pair-second ChildPairs refl (a .0) (a .1 .0)) (and-right (hasCode t Operations c (firstAt t ChildPairs (a .0))) _ (a .1 .1)))
-
-  pub parent-listed : (c : Code) → hasChild t c ≡ true → listed (operationOf t c) ≡ true
-  parent-listed c h = parent-operation c h .0
-
   -- an operation of class 4 or 5 has no error
   pub errorless-unpaired : (c e : Code) → (classOf (operationOf t c) ≡ 4) ⊎ (classOf (operationOf t c) ≡ 5) → paired t c e ≡ false
   unfolding allowed

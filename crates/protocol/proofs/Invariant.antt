@@ -1,6 +1,6 @@
 -- The invariant of a run of the two ends, and what keeps each of its parts.
 use Prim.Native.Nat.{ℕ, _≤_}
-use mathlib.Core.Path.{_≡_, refl, ap}
+use mathlib.Core.Path.{_≡_, refl}
 use mathlib.Core.Bool.{true, false}
 use mathlib.Core.List.{List, List·Memᴰ as In, List·Memᴰ·not-nil as in-nil}
 use mathlib.Core.Logic.{_⊎_, _≢_}

@@ -24,9 +24,6 @@ same-code-equal a b h =
 pub equal-code-same : (a b : Code) → a ≡ b → sameCode a b ≡ true
 equal-code-same a b e = eq-eqb (a .0) (b .0) (ap (λ (c : Code). c .0) e)
 
-pub other-code-apart : (a b : Code) → sameCode a b ≡ false → a ≡ b → ⊥
-other-code-apart a b h e = eqb-false (a .0) (b .0) h (ap (λ (c : Code). c .0) e)
-
 operation-nothing : {k : Code} → Operation k ≡ Nothing → ⊥
 operation-nothing {k} e =
     let z : _≡_ {A = ℕ} 0 1 = cc in

@@ -2,22 +2,19 @@
 use Prim.Native.Nat.{ℕ, zero, suc, _+_, _-_, _≤_, _<_}
 use native.Mathlib.Omega.{arith}
 use mathlib.Core.Path.{_≡_, refl, sym, ap, subst, _∙_}
-use mathlib.Core.Bool.{Bool, true, false, _&&_}
+use mathlib.Core.Bool.{true, false, _&&_}
 use mathlib.Core.List.{List, [], _∷_, _++_, append-assoc}
 use borrow.Author.Tests.{eqb-true, lt-ltb, le-leb, leb-true}
 use lib.Dec.{eqb, leb}
 use lib.ListN.{length, drop, replicate, length-append, length-take, length-drop, take-append-drop}
 use lib.Seq.{set-append-seam, take-append-seam, drop-append-seam, length-take-le}
 use Rattle.base.proofs.Tests.{and-true, and-left, and-right}
-use Rattle.records.specs.declared.Code.{Code}
-use Rattle.records.specs.declared.OwnId.{OwnId}
-use Rattle.records.specs.declared.PeerId.{PeerId}
 use Rattle.records.specs.declared.Record.{Record}
 use Rattle.records.specs.declared.Records.{Records}
 use Rattle.records.specs.declared.State.{State}
 use Rattle.records.specs.Limits.{records}
 use Rattle.records.specs.Records.{sameCode, unused, view, pack, member, without, distinct, blank, soundRecords, added, retired}
-use Rattle.records.specs.State.{fresh, soundState, addOwn, addPeer, retireOwn, retirePeer, viewed, SoundAnswer}
+use Rattle.records.specs.State.{fresh, soundState, viewed}
 use Rattle.records.proofs.Laws.{same-code-equal, distinct-added, distinct-without, without-shorter, without-absent}
 
 -- ---- the list and the side that holds it
@@ -103,9 +100,6 @@ packed-is-sound l few once =
     }
 
 module _ {s : Records} (h : Sound s) where
-  pub sound-count : s .count ≡ length (view s)
-  sound-count = ap (λ (t : Records). t .count) (h .packed)
-
   -- the new record goes last
   pub added-is-packed : (r : Record) → length (view s) < records → added s r ≡ pack (view s ++ r ∷ [])
   added-is-packed r room = ap (λ (t : Records). added t r) (h .packed) ∙ added-pack (view s) r room
@@ -138,15 +132,6 @@ fresh-is-sound =
     let side = packed-is-sound [] (omega arith) refl in
     record { own = side; peer = side }
 
--- what `State::sound` answers
-pub answer-is-sound : {s : State} {r : Bool} → SoundAnswer s r → r ≡ true → SoundBoth s
-answer-is-sound {s} {r} a h =
-    let both = sym (a .says) ∙ h in
-    record {
-      own = record { test = and-left (soundRecords (s .own)) (soundRecords (s .peer)) both; packed = ap (λ (t : State). t .own) (a .packed h) };
-      peer = record { test = and-right (soundRecords (s .own)) (soundRecords (s .peer)) both; packed = ap (λ (t : State). t .peer) (a .packed h) };
-    }
-
 pub both-packed : (s : State) → s .own ≡ pack (view (s .own)) → s .peer ≡ pack (view (s .peer)) → s ≡ viewed s
 both-packed s p q =
     let e : _≡_ {A = State} (record { own = s .own; peer = s .peer }) (viewed s) = cc in
@@ -155,18 +140,3 @@ both-packed s p q =
 module _ {s : State} (h : SoundBoth s) where
   pub sound-state : soundState s ≡ true
   sound-state = and-true (h .own .test) (h .peer .test)
-
-  pub sound-is-viewed : s ≡ viewed s
-  sound-is-viewed = both-packed s (h .own .packed) (h .peer .packed)
-
-  pub add-own-is-sound : (id : OwnId) (code : Code) → length (view (s .own)) < records → member (id .0) (view (s .own)) ≡ false → SoundBoth (addOwn s id code)
-  add-own-is-sound id code room new = record { own = added-is-sound (h .own) _ room new; peer = h .peer }
-
-  pub add-peer-is-sound : (id : PeerId) (code : Code) → length (view (s .peer)) < records → member (id .0) (view (s .peer)) ≡ false → SoundBoth (addPeer s id code)
-  add-peer-is-sound id code room new = record { own = h .own; peer = added-is-sound (h .peer) _ room new }
-
-  pub retire-own-is-sound : (id : OwnId) → SoundBoth (retireOwn s id)
-  retire-own-is-sound id = record { own = retired-is-sound (h .own) (id .0); peer = h .peer }
-
-  pub retire-peer-is-sound : (id : PeerId) → SoundBoth (retirePeer s id)
-  retire-peer-is-sound id = record { own = h .own; peer = retired-is-sound (h .peer) (id .0) }

@@ -1,0 +1,105 @@
+// What an end reads: the library's indication or refusal, in words.
+use crate::text::number;
+use crate::text::octets;
+use crate::text::say;
+use apdu::Body;
+use apdu::Number;
+use apdu::Value;
+use apdu::parse::octets_of;
+use protocol::Indication;
+use protocol::Reception;
+use protocol::Refusal;
+
+fn invocation_words(id: u32, operation: u32, name: &[u8], x: &[u8], value: Value) {
+    number(b"invocation ", id);
+    number(b" of operation ", operation);
+    match value {
+        Value::Absent => {
+            say(b", no");
+            say(name);
+        }
+        Value::At(span) => {
+            say(b",");
+            say(name);
+            octets(octets_of(x, span));
+        }
+    }
+}
+
+fn body_value(body: Body) -> Value {
+    match body {
+        Body::Absent => Value::Absent,
+        Body::Of { value, .. } => Value::At(value),
+    }
+}
+
+// The fields of a Reject, with the names of the two problems that occur here.
+fn reject_words(words: &[u8], id: Number, kind: u8, problem: u8) {
+    say(words);
+    match id {
+        Number::Absent => say(b"no invocation"),
+        Number::Of(n) => number(b"invocation ", n),
+    }
+    match kind {
+        0x82 => number(b", result problem ", problem as u32),
+        0x83 => number(b", error problem ", problem as u32),
+        _ => number(b", problem ", problem as u32),
+    }
+    if kind == 0x82 && problem == 0 {
+        say(b", unrecognized invocation");
+    }
+    if kind == 0x83 && problem == 2 {
+        say(b", unrecognized error");
+    }
+}
+
+fn indication_words(x: &[u8], said: Indication) {
+    match said {
+        Indication::Invoke {
+            id,
+            code,
+            argument,
+            ..
+        } => {
+            say(b"invoke: ");
+            invocation_words(id.0, code.0, b" argument", x, argument);
+        }
+        Indication::Result {
+            id,
+            body,
+            operation,
+        } => {
+            say(b"result: ");
+            invocation_words(id.0, operation.0, b" value", x, body_value(body));
+        }
+        Indication::Error {
+            id,
+            code,
+            parameter,
+            operation,
+        } => {
+            number(b"error ", code.0);
+            say(b": ");
+            invocation_words(id.0, operation.0, b" parameter", x, parameter);
+        }
+        Indication::ResultRejected { id, problem } => {
+            reject_words(b"reject: ", Number::Of(id.0), 0x82, problem)
+        }
+        Indication::ErrorRejected { id, problem } => {
+            reject_words(b"reject: ", Number::Of(id.0), 0x83, problem)
+        }
+        _ => say(b"another reject"),
+    }
+}
+
+pub(crate) fn reception_words(x: &[u8], reception: Reception) {
+    match reception {
+        Reception::Indicated(said) => indication_words(x, said),
+        Reception::Refused(why) => match why {
+            Refusal::Rejected { id, kind, problem } => {
+                reject_words(b"refused with 18: ", id, kind, problem)
+            }
+            _ => say(b"refused"),
+        },
+    }
+}

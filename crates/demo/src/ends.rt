@@ -1,0 +1,180 @@
+// A kiosk and a controller, each with its own table and state, and the channel between them.
+use crate::answer::reception_words;
+use crate::day::Day;
+use crate::day::FRESH;
+use crate::day::recorded;
+use crate::text::number;
+use crate::text::octets;
+use crate::text::say;
+use apdu::Span;
+use apdu::parse::octets_of;
+use protocol::Invocation;
+use protocol::Outcome;
+use protocol::PeerLink;
+use protocol::Requested;
+use records::Code;
+use records::OwnId;
+use records::PeerId;
+use records::State;
+
+// A table in document 01's layout, a line each: counts and offsets, operations, errors, error pairs.
+// Operation 7, reading: class 2, argument and result of type 02, result optional; error 1, below detection: no parameter.
+const KIOSK: [u8; 34] = *b"\
+    \x00\x01\x00\x10\x00\x01\x00\x18\x00\x01\x00\x1e\x00\x00\x00\x22\
+    \x00\x00\x00\x07\x02\x02\x02\x02\
+    \x00\x00\x00\x01\x00\x00\
+    \x00\x00\x00\x00";
+
+// It extends the kiosk's table by error 2, probe fault: no parameter, paired with operation 7.
+const CONTROLLER: [u8; 44] = *b"\
+    \x00\x01\x00\x10\x00\x02\x00\x18\x00\x02\x00\x24\x00\x00\x00\x2c\
+    \x00\x00\x00\x07\x02\x02\x02\x02\
+    \x00\x00\x00\x01\x00\x00\x00\x00\x00\x02\x00\x00\
+    \x00\x00\x00\x00\x00\x00\x00\x01";
+
+struct Apdu {
+    octets: [u8; 32],
+    span: Span,
+}
+
+// The state of each end, the last APDU that the channel took towards it, and the kiosk's record.
+pub(crate) struct Site {
+    kiosk: State,
+    controller: State,
+    to_kiosk: Apdu,
+    to_controller: Apdu,
+    pub(crate) day: Day,
+}
+
+pub(crate) fn opened() -> Site {
+    let none = Apdu {
+        octets: [0; 32],
+        span: Span { at: 0, end: 0 },
+    };
+    Site {
+        kiosk: State::fresh(),
+        controller: State::fresh(),
+        to_kiosk: none,
+        to_controller: none,
+        day: FRESH,
+    }
+}
+
+// What the channel holds after a call: the octets that the call wrote, or the same as before.
+fn sent(words: &[u8], before: Apdu, out: [u8; 32], written: usize) -> Apdu {
+    if written == 0 {
+        return before;
+    }
+    let span = Span {
+        at: 0,
+        end: written,
+    };
+    say(words);
+    octets(octets_of(&out, span));
+    say(b"\n");
+    Apdu { octets: out, span }
+}
+
+// The kiosk invokes operation 7 with probe 3, and the controller receives it.
+pub(crate) fn ask(mut site: Site, id: u32) -> Site {
+    let mut out = [0u8; 32];
+    let state = site.kiosk;
+    let before = site.to_controller;
+    let probe = b"\x02\x01\x03";
+    let r = rose::invoke(
+        state,
+        &KIOSK,
+        OwnId(id),
+        Code(7),
+        PeerLink::Absent,
+        probe,
+        &mut out,
+    );
+    let next = r.state;
+    let apdu = sent(b"   kiosk sends      ", before, out, r.written);
+    site.kiosk = next;
+    site.to_controller = apdu;
+    controller_reads(site)
+}
+
+// What the controller's request left: its new state, and the answer on the channel.
+fn answered(mut site: Site, r: Requested, out: [u8; 32]) -> Site {
+    let next = r.state;
+    let before = site.to_kiosk;
+    let apdu = sent(b"   controller sends ", before, out, r.written);
+    site.controller = next;
+    site.to_kiosk = apdu;
+    site
+}
+
+pub(crate) fn result(site: Site, id: u32, value: &[u8]) -> Site {
+    let mut out = [0u8; 32];
+    let state = site.controller;
+    let r = rose::result(state, &CONTROLLER, PeerId(id), value, &mut out);
+    answered(site, r, out)
+}
+
+pub(crate) fn error(site: Site, id: u32, code: u32) -> Site {
+    let mut out = [0u8; 32];
+    let state = site.controller;
+    let r = rose::error(state, &CONTROLLER, PeerId(id), Code(code), b"", &mut out);
+    answered(site, r, out)
+}
+
+// The kiosk gives an invocation up.
+pub(crate) fn forget(mut site: Site, id: u32) -> Site {
+    let state = site.kiosk;
+    let r = rose::forget(state, &KIOSK, Invocation::Own(OwnId(id)));
+    let next = r.state;
+    let outcome = r.outcome;
+    match outcome {
+        Outcome::Accepted => number(b"   kiosk forgets     invocation ", id),
+        Outcome::Refused(_) => number(b"   kiosk keeps       invocation ", id),
+    }
+    say(b"\n");
+    site.kiosk = next;
+    site
+}
+
+// The kiosk receives what is on the channel, and records what the library says of it.
+pub(crate) fn kiosk_reads(mut site: Site) -> Site {
+    let mut out = [0u8; 32];
+    let state = site.kiosk;
+    let day = site.day;
+    let before = site.to_controller;
+    let apdu = site.to_kiosk;
+    let arrived = apdu.octets;
+    let x = octets_of(&arrived, apdu.span);
+    let r = rose::receive(state, &KIOSK, x, &mut out);
+    let next = r.state;
+    let reception = r.reception;
+    say(b"   kiosk reads       ");
+    reception_words(x, reception);
+    say(b"\n   kiosk records     ");
+    let day = recorded(day, x, reception);
+    say(b"\n");
+    let answer = sent(b"   kiosk sends      ", before, out, r.written);
+    site.kiosk = next;
+    site.day = day;
+    site.to_controller = answer;
+    site
+}
+
+pub(crate) fn controller_reads(mut site: Site) -> Site {
+    let mut out = [0u8; 32];
+    let state = site.controller;
+    let before = site.to_kiosk;
+    let apdu = site.to_controller;
+    let arrived = apdu.octets;
+    let x = octets_of(&arrived, apdu.span);
+    let r = rose::receive(state, &CONTROLLER, x, &mut out);
+    let next = r.state;
+    let reception = r.reception;
+    say(b"   controller reads  ");
+    reception_words(x, reception);
+    say(b"\n");
+    let answer = sent(b"   controller sends ", before, out, r.written);
+    site.controller = next;
+    site.to_kiosk = answer;
+    site
+}

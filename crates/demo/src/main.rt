@@ -1,0 +1,97 @@
+// A water kiosk asks a probe controller for chlorine readings, over a channel that loses, repeats and delays answers.
+mod answer;
+mod day;
+mod ends;
+mod text;
+
+use day::close;
+use day::with_unknown;
+use ends::Site;
+use ends::ask;
+use ends::controller_reads;
+use ends::error;
+use ends::forget;
+use ends::kiosk_reads;
+use ends::opened;
+use ends::result;
+use text::say;
+
+// The three answers of a probe.
+fn three_answers(mut site: Site) -> Site {
+    say(b"\n1. A reading: a result with a value\n");
+    site = ask(site, 1);
+    site = result(site, 1, b"\x02\x01\x0c");
+    site = kiosk_reads(site);
+    say(b"\n2. A reading below detection: an error, not a result\n");
+    site = ask(site, 2);
+    site = error(site, 2, 1);
+    site = kiosk_reads(site);
+    say(b"\n3. The probe is being cleaned: a result without a value\n");
+    site = ask(site, 3);
+    site = result(site, 3, b"");
+    kiosk_reads(site)
+}
+
+fn lost(mut site: Site) -> Site {
+    say(b"\n4. A lost answer: the kiosk gives up and asks anew, with a fresh id\n");
+    site = ask(site, 4);
+    site = result(site, 4, b"\x02\x01\x0e");
+    say(b"   channel loses     this answer\n");
+    site = forget(site, 4);
+    site = ask(site, 5);
+    site = result(site, 5, b"\x02\x01\x0d");
+    kiosk_reads(site)
+}
+
+fn repeated(mut site: Site) -> Site {
+    say(b"\n5. An answer that arrives twice: recorded once\n");
+    site = ask(site, 6);
+    site = result(site, 6, b"\x02\x01\x0f");
+    site = kiosk_reads(site);
+    say(b"   channel repeats   this answer\n");
+    site = kiosk_reads(site);
+    controller_reads(site)
+}
+
+// Id 7 is left out, since it would read like operation 7.
+fn late(mut site: Site) -> Site {
+    say(b"\n6. A late answer: the old reading is not taken for the new one\n");
+    site = ask(site, 8);
+    site = result(site, 8, b"\x02\x01\x11");
+    say(b"   channel delays    this answer\n");
+    site = forget(site, 8);
+    site = ask(site, 9);
+    say(b"   channel delivers  the answer to invocation 8\n");
+    site = kiosk_reads(site);
+    site = controller_reads(site);
+    site = result(site, 9, b"\x02\x01\x10");
+    kiosk_reads(site)
+}
+
+fn not_understood(mut site: Site) -> Site {
+    say(b"\n7. A newer controller: an error that the kiosk's table does not have\n");
+    site = ask(site, 10);
+    site = error(site, 10, 2);
+    site = kiosk_reads(site);
+    site = controller_reads(site);
+    site = forget(site, 10);
+    let day = site.day;
+    say(b"   kiosk records     ");
+    let day = with_unknown(day);
+    say(b"\n");
+    site.day = day;
+    site
+}
+
+fn main() {
+    say(b"A water kiosk asks a probe controller for chlorine readings; the channel can fail.\n");
+    say(b"Operation 7 reads the probe that its argument names, in hundredths of a mg/l.\n");
+    say(b"The library wrote all octets, shown in hex; each 'reads' line is what it answered.\n");
+    let mut site = three_answers(opened());
+    site = lost(site);
+    site = repeated(site);
+    site = late(site);
+    site = not_understood(site);
+    let day = site.day;
+    close(day);
+}
