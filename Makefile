@@ -1,10 +1,11 @@
 # make demo: proves the library and runs a kiosk and a controller.
 # make test: proves every crate, tries the must-fail edits, runs the programs, then tests the second program and compares it with drive.
-# Its last line is rt ci's 'N passed, 0 failed'; on a failure it is 'make test: failed'.
+# make bench: measures the calls beside the second program's; it also needs valgrind and python3.
+# The last line of make test is rt ci's 'N passed, 0 failed'; on a failure it is 'make test: failed'.
 SHELL := bash
 .SHELLFLAGS := -euo pipefail -c
 .ONESHELL:
-.PHONY: demo test
+.PHONY: bench demo test
 
 need = need() { command -v "$$1" >/dev/null || { echo "make $@: the command $$1 is missing: $$2"; exit 1; }; }
 kit = need rt "install the Rattle kit and put its bin folder on PATH"
@@ -32,3 +33,13 @@ test:
 	cargo build --release --offline --quiet --manifest-path tests/second/Cargo.toml
 	tests/second/target/release/second compare target/bin/drive 40 2000
 	echo "$$last"
+
+bench:
+	@$(need)
+	$(kit)
+	need cargo "install Rust; no crate is fetched"
+	need valgrind "it counts the instructions"
+	echo "make bench: drive is proved before it is built, some six minutes on 2 cores the first time."
+	rt check drive | grep '^rt: .* proved'
+	cargo build --release --offline --quiet --manifest-path tests/second/Cargo.toml
+	python3 tests/bench/bench.py

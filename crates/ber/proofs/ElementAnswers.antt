@@ -57,6 +57,12 @@ unfolding elementOf
 element-no-level zero s e = refl
 element-no-level (suc d) s e = absurd (omega arith)
 
+pub contents-no-level : (d : ℕ) (s : List ℕ) → d ≡ 0 → eqb (length s) 0 ≡ contentsOf d s
+contents-no-level d [] e = sym (contents-none d)
+contents-no-level d (b ∷ s) e =
+    let n : suc (length s) ≡ 0 → ⊥ = λ z. omega arith in
+    ne-eqb (suc (length s)) 0 n ∙ sym (contents-fault d (b ∷ s) (omega arith) (sym (element-no-level d (b ∷ s) e)))
+
 module _ (d : ℕ) (s : List ℕ) (h : Header) (n : d ≡ 0 → ⊥) (q : h ≡ headerOf s) where
   pub element-no-header : h ≡ NoHeader → Fault ≡ elementOf d s
   unfolding elementWith

@@ -12,6 +12,7 @@ use lib.Dec.{ltb, leb, eqb}
 use borrow.Author.Tests.{lt-ltb, le-ltb, le-leb, lt-leb, eq-eqb, ne-eqb, leb-true, ltb-true}
 use Rattle.ber.specs.declared.header.Length.{Length}
 use Rattle.ber.specs.declared.header.Length.the-variants.{Is, NoLength}
+use Rattle.ber.specs.declared.header.Header.{Header}
 use Rattle.ber.specs.declared.header.Header.the-variants.{At, NoHeader}
 use Rattle.base.proofs.Tests.{cond-elim, cond-true, cond-false, and-true, and-left, and-right}
 use Rattle.base.proofs.Lists.{rest}
@@ -156,30 +157,43 @@ length-long s v h l m w e =
 
 -- ---- header
 
+-- the contents are there, or they are cut
+module _ (s : List ℕ) (k n v : ℕ) where
+  pub contents-there : v ≤ length s - (k + n) → At (getD s 0 0) (k + n) (k + n + v) ≡ headerWith s k (Is n v)
+  unfolding headerWith
+  contents-there h = cond-true _ _ (le-leb _ _ h)
+
+  pub contents-cut : length s - (k + n) < v → NoHeader ≡ headerWith s k (Is n v)
+  unfolding headerWith
+  contents-cut h = cond-false _ _ (lt-leb _ _ h)
+
 -- the header, from k octets of identifier and the length l that was read behind them
 module _ (s : List ℕ) (k : ℕ) (l : Length) (q : k ≡ identifierOctets s) (e : l ≡ lengthOf (take (length s - k) (drop k s))) where
-  header-parsed : (k ≡ 0 → ⊥) → headerWith s k l ≡ headerOf s
+  pub header-parsed : {r : Header} → (k ≡ 0 → ⊥) → r ≡ headerWith s k l → r ≡ headerOf s
   unfolding headerOf
-  header-parsed n =
-      ap (headerWith s k) (e ∙ ap lengthOf (rest s k)) ∙ cond-false NoHeader _ (ne-eqb k 0 n)
+  header-parsed {r} n w =
+      w ∙ ap (headerWith s k) (e ∙ ap lengthOf (rest s k)) ∙ cond-false NoHeader _ (ne-eqb k 0 n)
       ∙ ap (λ (m : ℕ). cond (eqb m 0) NoHeader (headerWith s m (lengthOf (drop m s)))) q
 
   pub header-no-length : (k ≡ 0 → ⊥) → l ≡ NoLength → NoHeader ≡ headerOf s
   unfolding headerWith
-  header-no-length n w = ap (headerWith s k) (sym w) ∙ header-parsed n
-
-  pub header-cut : (n v : ℕ) → (k ≡ 0 → ⊥) → l ≡ Is n v → length s - (k + n) < v → NoHeader ≡ headerOf s
-  unfolding headerWith
-  header-cut n v z w h = cond-false _ _ (lt-leb _ _ h) ∙ ap (headerWith s k) (sym w) ∙ header-parsed z
+  header-no-length n w = header-parsed n (ap (headerWith s k) (sym w))
 
   pub header-at : (n v : ℕ) → (k ≡ 0 → ⊥) → l ≡ Is n v → v ≤ length s - (k + n) → At (getD s 0 0) (k + n) (k + n + v) ≡ headerOf s
-  unfolding headerWith
-  header-at n v z w h = cond-true _ _ (le-leb _ _ h) ∙ ap (headerWith s k) (sym w) ∙ header-parsed z
+  header-at n v z w h = header-parsed z (contents-there s k n v h ∙ ap (headerWith s k) (sym w))
 
   pub header-room : (n v : ℕ) → l ≡ Is n v → (1 ≤ n) × (k + n ≤ length s)
   header-room n v w =
       let h : LengthWithin (length (take (length s - k) (drop k s))) (Is n v) = subst (LengthWithin (length (take (length s - k) (drop k s)))) (sym e ∙ w) (length-within (take (length s - k) (drop k s))) in
       omega (arith, h, length-drop k s, ap length (rest s k), identifier-within s)
+
+-- a length of one octet
+pub header-short : {r : Header} (s : List ℕ) (k : ℕ) → k ≡ identifierOctets s → (k ≡ 0 → ⊥) → k < length s → getD s k 0 < 128 → r ≡ headerWith s k (Is 1 (getD s k 0)) → r ≡ headerOf s
+unfolding headerOf lengthOf
+header-short {r} s k q n h b w =
+    w ∙ ap (headerWith s k) (cond-true _ _ (lt-ltb _ _ b) ∙ ap lengthOf (sym (drop-cons s k 0 h)))
+    ∙ cond-false NoHeader _ (ne-eqb k 0 n)
+    ∙ ap (λ (m : ℕ). cond (eqb m 0) NoHeader (headerWith s m (lengthOf (drop m s)))) q
 
 pub header-none : (s : List ℕ) (k : ℕ) → k ≡ identifierOctets s → k ≡ 0 → NoHeader ≡ headerOf s
 unfolding headerOf

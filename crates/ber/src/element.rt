@@ -3,6 +3,7 @@ use crate::header::Header;
 use crate::header::header_of;
 use crate::rule::content_rule;
 ghost use mathlib.Core.Path.{_≡_};
+ghost use Prim.Native.Nat.{ℕ, _≤_};
 ghost use Rattle.ber.specs.Element.{elementOf, contentsOf, wellFormed};
 
 // What a check finds at the front of octets: an element of so many octets, or a fault.
@@ -39,18 +40,44 @@ pub fn element(s: &[u8], levels: usize) -> Checked
     }
 }
 
-// All of s is elements, end to end. The loop keeps the stack to two calls a level.
+// How many octets the element at the front of s takes, if it is primitive and right, else 0.
+fn primitive(s: &[u8]) -> usize
+    ensures { λ r. ⌜ ((d : ℕ) → 1 ≤ d → 1 ≤ r → Checked.Good r ≡ elementOf d (now (s .entry))) ⌝ }
+{
+    match header_of(s) {
+        Header::NoHeader => 0,
+        Header::At { id, start, end } => {
+            if id / 32 % 2 == 1 {
+                return 0;
+            }
+            if content_rule(id, &s[start..end]) {
+                return end;
+            }
+            0
+        }
+    }
+}
+
+// All of s is elements, end to end. The loop keeps the stack to two calls a level, and primitive elements to none.
 pub fn contents(s: &[u8], levels: usize) -> bool
     ensures { λ r. ⌜ r ≡ contentsOf levels (now (s .entry)) ⌝ }
 {
+    if levels == 0 {
+        return s.len() == 0;
+    }
     let mut at = 0;
     while at < s.len() {
-        match element(&s[at..], levels) {
-            Checked::Fault => {
-                return false;
-            }
-            Checked::Good { len } => {
-                at += len;
+        let n = primitive(&s[at..]);
+        if n > 0 {
+            at += n;
+        } else {
+            match element(&s[at..], levels) {
+                Checked::Fault => {
+                    return false;
+                }
+                Checked::Good { len } => {
+                    at += len;
+                }
             }
         }
     }

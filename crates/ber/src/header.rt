@@ -4,7 +4,7 @@ use crate::output::store_digits;
 ghost use mathlib.Core.Path.{_≡_};
 ghost use Prim.Native.Nat.{_+_, _≤_, _<_, _^_};
 ghost use lib.ListN.{length};
-ghost use Rattle.ber.specs.Header.{numberFrom, continued, oneOf, refusedIdentifiers, identifierOctets, lengthOf, headerOf, lengthCount, lengthOctets};
+ghost use Rattle.ber.specs.Header.{numberFrom, continued, oneOf, refusedIdentifiers, identifierOctets, lengthOf, headerWith, headerOf, lengthCount, lengthOctets};
 ghost use Rattle.ber.specs.Output.{Put, Stored};
 
 // A length: how many octets it takes, and its value.
@@ -125,7 +125,23 @@ fn length_of(s: &[u8]) -> Length
     }
 }
 
-// The header of the element at the front of s.
+// The header with k octets of identifier and so many of length, where the contents are all there.
+fn header_with(s: &[u8], k: usize, octets: usize, value: usize) -> Header
+    requires { ⌜ (1 ≤ k) × (k + octets ≤ length (now s)) ⌝ }
+    ensures { λ r. ⌜ r ≡ headerWith (now (s .entry)) k (Length.Is octets value) ⌝ }
+{
+    let start = k + octets;
+    if value <= s.len() - start {
+        return Header::At {
+            id: s[0],
+            start,
+            end: start + value,
+        };
+    }
+    Header::NoHeader
+}
+
+// The header of the element at the front of s. A short length, which most have, is read without more ado.
 pub fn header_of(s: &[u8]) -> Header
     ensures { λ r. ⌜ r ≡ headerOf (now (s .entry)) ⌝ }
 {
@@ -133,20 +149,14 @@ pub fn header_of(s: &[u8]) -> Header
     if k == 0 {
         return Header::NoHeader;
     }
+    if k < s.len() {
+        if s[k] < 0x80 {
+            return header_with(s, k, 1, s[k] as usize);
+        }
+    }
     match length_of(&s[k..]) {
         Length::NoLength => Header::NoHeader,
-        Length::Is { octets, value } => {
-            let a = k + octets;
-            if value <= s.len() - a {
-                Header::At {
-                    id: s[0],
-                    start: a,
-                    end: a + value,
-                }
-            } else {
-                Header::NoHeader
-            }
-        }
+        Length::Is { octets, value } => header_with(s, k, octets, value),
     }
 }
 

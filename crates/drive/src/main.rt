@@ -1,4 +1,5 @@
 // One end of an association, driven by a script of frames on standard input: a line on standard output for each call.
+// A number as argument says how often each call is made, from the state as it was, so that calls can be measured.
 mod answer;
 mod text;
 
@@ -7,11 +8,13 @@ use answer::outcome_line;
 use answer::reception_line;
 use protocol::Invocation;
 use protocol::PeerLink;
+use protocol::Received;
 use protocol::Requested;
 use records::Code;
 use records::OwnId;
 use records::PeerId;
 use records::State;
+use text::decimal_of;
 use text::fill;
 use text::pair;
 use text::side_image;
@@ -21,6 +24,7 @@ use text::words;
 // What is kept from frame to frame.
 struct Session {
     more: bool,
+    times: u64,
     table_len: usize,
     state: State,
 }
@@ -70,6 +74,7 @@ fn ended(s: Session) -> Session {
     let state = s.state;
     Session {
         more: false,
+        times: 0,
         table_len: 0,
         state,
     }
@@ -89,8 +94,34 @@ fn invocation(f: Frame) -> Invocation {
     Invocation::Peer(PeerId(f.id))
 }
 
-fn receive(state: State, table: &[u8], x: &[u8], out: &mut [u8], line: &mut [u8]) -> State {
-    let r = rose::receive(state, table, x, out);
+// The state to make a call from once more: the one that was given, which the compiler must not know in advance.
+fn given_again(written: usize, then: State, given: State) -> State {
+    if written > State::OCTETS {
+        return then;
+    }
+    given
+}
+
+fn received(times: u64, state: State, table: &[u8], x: &[u8], out: &mut [u8]) -> Received {
+    let mut r = rose::receive(state, table, x, out);
+    let mut left = times;
+    while left > 1 {
+        let given = given_again(r.written, r.state, state);
+        r = rose::receive(given, table, x, out);
+        left -= 1;
+    }
+    r
+}
+
+fn receive(
+    times: u64,
+    state: State,
+    table: &[u8],
+    x: &[u8],
+    out: &mut [u8],
+    line: &mut [u8],
+) -> State {
+    let r = received(times, state, table, x, out);
     let reception = r.reception;
     let next = r.state;
     let at = reception_line(line, x, reception);
@@ -115,8 +146,27 @@ fn request(f: Frame, state: State, table: &[u8], value: &[u8], out: &mut [u8]) -
     rose::forget(state, table, invocation(f))
 }
 
-// One call and its line.
+fn requested(
+    times: u64,
+    f: Frame,
+    state: State,
+    table: &[u8],
+    value: &[u8],
+    out: &mut [u8],
+) -> Requested {
+    let mut r = request(f, state, table, value, out);
+    let mut left = times;
+    while left > 1 {
+        let given = given_again(r.written, r.state, state);
+        r = request(f, given, table, value, out);
+        left -= 1;
+    }
+    r
+}
+
+// A call, made so many times, and its line.
 fn call(
+    times: u64,
     f: Frame,
     state: State,
     table: &[u8],
@@ -126,9 +176,9 @@ fn call(
 ) -> State {
     fill(out);
     if f.kind == 2 {
-        return receive(state, table, payload, out, line);
+        return receive(times, state, table, payload, out, line);
     }
-    let r = request(f, state, table, payload, out);
+    let r = requested(times, f, state, table, payload, out);
     let outcome = r.outcome;
     let next = r.state;
     let at = outcome_line(line, f.kind == 7, outcome);
@@ -141,12 +191,14 @@ fn imaged(payload: &[u8], s: Session) -> Session {
     if payload.len() != 516 {
         return s;
     }
+    let times = s.times;
     let table_len = s.table_len;
     let own = side_image(payload, 0);
     let peer = side_image(payload, 258);
     let state = State { own, peer };
     Session {
         more: true,
+        times,
         table_len,
         state,
     }
@@ -162,13 +214,15 @@ fn called(
     s: Session,
 ) -> Session {
     let room = f.room;
+    let times = s.times;
     let table_len = s.table_len;
     if table_len <= table.len() {
         if room <= out.len() {
             let lent = &table[0..table_len];
-            let state = call(f, s.state, lent, payload, &mut out[0..room], line);
+            let state = call(times, f, s.state, lent, payload, &mut out[0..room], line);
             return Session {
                 more: true,
+                times,
                 table_len,
                 state,
             };
@@ -189,9 +243,11 @@ fn act(
     let kind = f.kind;
     if kind == 0 {
         let state = s.state;
+        let times = s.times;
         let table_len = words(table, 0, payload);
         return Session {
             more: true,
+            times,
             table_len,
             state,
         };
@@ -229,9 +285,10 @@ fn turn(
 }
 
 // A proved loop has to end, so it counts its turns down, from a number that no run uses up.
-fn run(table: &mut [u8], payload: &mut [u8], out: &mut [u8], line: &mut [u8]) {
+fn run(times: u64, table: &mut [u8], payload: &mut [u8], out: &mut [u8], line: &mut [u8]) {
     let mut s = Session {
         more: true,
+        times,
         table_len: 0,
         state: State::fresh(),
     };
@@ -242,10 +299,17 @@ fn run(table: &mut [u8], payload: &mut [u8], out: &mut [u8], line: &mut [u8]) {
     }
 }
 
+// How often each call is made: what the argument says, or once.
+fn times_asked() -> u64 {
+    let mut text = io::buffer();
+    let n = os::arg(1, &mut text);
+    decimal_of(&text[..n])
+}
+
 fn main() {
     let mut table = io::large_buffer();
     let mut payload = io::large_buffer();
     let mut out = io::large_buffer();
     let mut line = [0u8; 300000];
-    run(&mut table, &mut payload, &mut out, &mut line);
+    run(times_asked(), &mut table, &mut payload, &mut out, &mut line);
 }

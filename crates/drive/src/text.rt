@@ -113,6 +113,28 @@ pub(crate) fn side_line(line: &mut [u8], at: usize, side: Records) -> usize {
     places(line, k, side, shown(side))
 }
 
+// The number that decimal digits say; other octets and digits from 10^12 on are passed over.
+pub(crate) fn decimal_of(s: &[u8]) -> u64 {
+    let mut n: u64 = 0;
+    for i in 0..s.len() {
+        n = with_digit(n, s[i]);
+    }
+    n
+}
+
+fn with_digit(n: u64, b: u8) -> u64 {
+    if b < 48 {
+        return n;
+    }
+    if b > 57 {
+        return n;
+    }
+    if n >= 1_000_000_000_000 {
+        return n;
+    }
+    n * 10 + ((b - 48) as u64)
+}
+
 // ---- numbers from octets, 0 where they are missing
 
 pub(crate) fn pair(a: u8, b: u8) -> usize {

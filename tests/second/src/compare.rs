@@ -23,7 +23,7 @@ pub fn compare(program: &str, seeds: RangeInclusive<u64>, calls: usize) -> Resul
     for seed in seeds {
         let script = generate::script(seed, calls);
         lines.clear();
-        drive::play(&script[..], &mut lines).map_err(|error| format!("playing seed {seed}: {error}"))?;
+        drive::play(&script[..], &mut lines, 1).map_err(|error| format!("playing seed {seed}: {error}"))?;
         let theirs = run(program, &script)?;
         if let Some(difference) = first_difference(&lines, &theirs) {
             print!("{}", describe(seed, &script, &difference));

@@ -1,6 +1,7 @@
 //! One end of an association driven by a script: frames in, one line out for each call.
 //! Follows the drive protocol.
 
+use std::hint::black_box;
 use std::io::{self, Read, Write};
 
 use crate::answer::{Indication, Problem, Refusal};
@@ -16,6 +17,8 @@ pub struct Drive {
     pub table: Vec<u8>,
     pub state: State,
     output: Vec<u8>,
+    /// How often each call is made, for measuring: each time from the state as it was.
+    times: u64,
 }
 
 /// What a call answered.
@@ -56,7 +59,7 @@ impl Default for Drive {
 
 impl Drive {
     pub fn new(table: Vec<u8>, state: State) -> Self {
-        Drive { table, state, output: vec![FILLER; usize::from(u16::MAX)] }
+        Drive { table, state, output: vec![FILLER; usize::from(u16::MAX)], times: 1 }
     }
 
     pub fn step<'a>(&mut self, frame: &Frame<'a>) -> Step<'a> {
@@ -78,9 +81,18 @@ impl Drive {
     }
 
     fn call<'a>(&mut self, frame: &Frame<'a>) -> Answer<'a> {
+        self.output[..usize::from(frame.lent)].fill(FILLER);
+        for _ in 1..self.times {
+            let state = self.state.clone();
+            black_box(self.answer(frame));
+            self.state = state;
+        }
+        self.answer(frame)
+    }
+
+    fn answer<'a>(&mut self, frame: &Frame<'a>) -> Answer<'a> {
         let Frame { id, code, payload: value, .. } = *frame;
         let output = &mut self.output[..usize::from(frame.lent)];
-        output.fill(FILLER);
         let (table, state) = (&self.table[..], &mut self.state);
         let sent = match frame.kind {
             frame::RECEIVE => {
@@ -121,9 +133,9 @@ impl Drive {
     }
 }
 
-/// Plays a script until it ends; writes one line for each call.
-pub fn play(mut script: impl Read, mut lines: impl Write) -> io::Result<()> {
-    let mut drive = Drive::default();
+/// Plays a script until it ends; writes one line for each call, which is made so many times.
+pub fn play(mut script: impl Read, mut lines: impl Write, times: u64) -> io::Result<()> {
+    let mut drive = Drive { times, ..Drive::default() };
     let (mut header, mut payload, mut line) = ([0; frame::HEADER], Vec::new(), Vec::new());
     while fill(&mut script, &mut header)? {
         payload.resize(Frame::payload_octets(&header), 0);

@@ -8,6 +8,7 @@ use second::coverage::{self, Coverage};
 use second::{compare, drive, ends, generate};
 
 const USAGE: &str = "second play                         play a script from standard input (also without arguments)
+second repeat COUNT                 play it, but make each call COUNT times from the state as it was, to measure it
 second generate SEED COUNT          write a script of COUNT calls
 second coverage                     show what the generated scripts reach; fails if a row is too rare
 second compare PROGRAM SEEDS COUNT  play scripts of COUNT calls here and on PROGRAM, started without arguments;
@@ -31,7 +32,8 @@ fn main() -> ExitCode {
 /// Runs a command; false if what it checks does not hold.
 fn run(arguments: &[&str]) -> Result<bool, String> {
     match *arguments {
-        [] | ["play"] => play(),
+        [] | ["play"] => play(1),
+        ["repeat", count] => play(number(count, "COUNT")?),
         ["generate", seed, count] => write(&generate::script(number(seed, "SEED")?, number(count, "COUNT")? as usize)),
         ["coverage"] => {
             let (report, enough) = Coverage::of(coverage::SEEDS, coverage::CALLS).report();
@@ -50,10 +52,10 @@ fn run(arguments: &[&str]) -> Result<bool, String> {
     }
 }
 
-fn play() -> Result<bool, String> {
+fn play(times: u64) -> Result<bool, String> {
     let lines = BufWriter::with_capacity(1 << 16, io::stdout().lock());
     let script = BufReader::with_capacity(1 << 16, io::stdin().lock());
-    drive::play(script, lines).map(|()| true).map_err(|error| format!("playing stopped: {error}"))
+    drive::play(script, lines, times).map(|()| true).map_err(|error| format!("playing stopped: {error}"))
 }
 
 fn write(octets: &[u8]) -> Result<bool, String> {

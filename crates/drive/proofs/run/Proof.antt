@@ -7,10 +7,10 @@ use Rattle.drive.proofs.run.Statement.{statement}
 use Rattle.drive.proofs.run.Tie as tie
 
 abbrev Inv-loop : tie.InvT-loop
-Inv-loop table₀ payload₀ out₀ line₀ s₀ turns₀ table payload out line s turns = (length table ≡ length table₀) × (length payload ≡ length payload₀) × (length out ≡ length out₀) × (length line ≡ length line₀)
+Inv-loop times table₀ payload₀ out₀ line₀ s₀ turns₀ table payload out line s turns = (length table ≡ length table₀) × (length payload ≡ length payload₀) × (length out ≡ length out₀) × (length line ≡ length line₀)
 
 abbrev μ-loop : tie.MeasureT-loop
-μ-loop table₀ payload₀ out₀ line₀ s₀ turns₀ table payload out line s turns = turns
+μ-loop times table₀ payload₀ out₀ line₀ s₀ turns₀ table payload out line s turns = turns
 
 fresh-requires : tie.Need-fresh-requires Inv-loop μ-loop
 fresh-requires c κs = search needs

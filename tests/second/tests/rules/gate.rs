@@ -14,7 +14,7 @@ const PROGRAM: &str = env!("CARGO_BIN_EXE_second");
 
 fn lines(script: &[u8]) -> String {
     let mut lines = Vec::new();
-    drive::play(script, &mut lines).unwrap();
+    drive::play(script, &mut lines, 1).unwrap();
     String::from_utf8(lines).unwrap()
 }
 

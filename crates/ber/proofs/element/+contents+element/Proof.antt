@@ -3,9 +3,10 @@ use mathlib.Core.Path.{_≡_, refl, sym, ap, _∙_}
 use native.Mathlib.Omega.{arith}
 use borrow.Author.Needs.{needs}
 use lib.ListN.{length, drop, length-drop}
+use Rattle.ber.specs.declared.element.Checked.the-variants.{Good}
 use Rattle.ber.specs.Element.{contentsOf}
 use Rattle.base.proofs.Lists.{rest}
-use Rattle.ber.proofs.ElementAnswers.{rest-room, rest-step, rest-fault, rest-end, part-shorter, element-no-level, element-no-header, header-room, element-wrong, element-primitive, element-constructed, element-inside-wrong}
+use Rattle.ber.proofs.ElementAnswers.{rest-room, rest-step, rest-fault, rest-end, part-shorter, element-no-level, contents-no-level, element-no-header, header-room, element-wrong, element-primitive, element-constructed, element-inside-wrong}
 use Prim.Native.Nat.{ℕ, _<_, _≤_, _+_, _-_, _*_}
 use borrow.Fn.Kinds.{In}
 use borrow.Fn.PlainCycle.{Measures, is, falls, and}
@@ -19,6 +20,7 @@ use Rattle.ber.proofs.element.element.Kinds as element-kinds
 use Rattle.ber.proofs.element.+contents+element.Lts-element as element-lts
 use Rattle.ber.proofs.rule.content_rule.Reads as content-rule-reads
 use Rattle.ber.proofs.header.header_of.Reads as header-of-reads
+use Rattle.ber.proofs.element.primitive.Reads as primitive-reads
 
 abbrev μ-contents : Measures 1 contents-kinds.ps ℕ
 μ-contents κs a = 2 * length (a .0 .now) + 1
@@ -46,147 +48,208 @@ contents-Inv-loop s levels at₀ at =
 abbrev contents-μ-loop : contents-lts.MeasureT-loop
 contents-μ-loop s levels at₀ at = length s - at
 
-contents-loop-holds :
-    (t : ℕ) →
-    contents-lts.Need-loop-holds
-    (element-below t, element.Post)
-    (contents-at t)
-    contents.Post
-    contents-Inv-loop
-    contents-μ-loop
+contents-returns : (t : ℕ) → contents-lts.Need-returns (
+  primitive-reads.Asked,
+  primitive-reads.Learnt,
+  element-below t,
+  element.Post,
+) (contents-at t) contents.Post contents-Inv-loop contents-μ-loop
+contents-returns t c = contents-no-level (c .before .before .args .levels) (c .before .before .args .s .now) (omega arith)
+
+contents-loop-holds : (t : ℕ) → contents-lts.Need-loop-holds (
+  primitive-reads.Asked,
+  primitive-reads.Learnt,
+  element-below t,
+  element.Post,
+) (contents-at t) contents.Post contents-Inv-loop contents-μ-loop
 contents-loop-holds t c = (omega arith, refl)
 
-contents-sub-element :
-    (t : ℕ) →
-    contents-lts.Need-sub-element
-    (element-below t, element.Post)
-    (contents-at t)
-    contents.Post
-    contents-Inv-loop
-    contents-μ-loop
+contents-sub-primitive : (t : ℕ) → contents-lts.Need-sub-primitive (
+  primitive-reads.Asked,
+  primitive-reads.Learnt,
+  element-below t,
+  element.Post,
+) (contents-at t) contents.Post contents-Inv-loop contents-μ-loop
+contents-sub-primitive t c = omega arith
+
+contents-part-primitive-start : (t : ℕ) → contents-lts.Need-part-primitive-start (
+  primitive-reads.Asked,
+  primitive-reads.Learnt,
+  element-below t,
+  element.Post,
+) (contents-at t) contents.Post contents-Inv-loop contents-μ-loop
+contents-part-primitive-start t c = omega arith
+
+contents-part-primitive-end : (t : ℕ) → contents-lts.Need-part-primitive-end (
+  primitive-reads.Asked,
+  primitive-reads.Learnt,
+  element-below t,
+  element.Post,
+) (contents-at t) contents.Post contents-Inv-loop contents-μ-loop
+contents-part-primitive-end t c = search needs
+
+contents-primitive-requires : (t : ℕ) → contents-lts.Need-primitive-requires (
+  primitive-reads.Asked,
+  primitive-reads.Learnt,
+  element-below t,
+  element.Post,
+) (contents-at t) contents.Post contents-Inv-loop contents-μ-loop
+contents-primitive-requires t c κs = search needs
+
+contents-add-at : (t : ℕ) → contents-lts.Need-add-at (
+  primitive-reads.Asked,
+  primitive-reads.Learnt,
+  element-below t,
+  element.Post,
+) (contents-at t) contents.Post contents-Inv-loop contents-μ-loop
+contents-add-at t c =
+    let primitive = c .before in
+    let loop = primitive .before .before .before in
+    let start = loop .before .before .before in
+    let found = primitive .primitive .ensures (start .args .levels) (omega arith) (omega arith) in
+    omega (arith, rest-room (start .args .levels) (start .args .s .now) (loop .loop .at) (Good (primitive .primitive .result)) found (primitive .primitive .result) refl, start .good)
+
+contents-loop-less : (t : ℕ) → contents-lts.Need-loop-less (
+  primitive-reads.Asked,
+  primitive-reads.Learnt,
+  element-below t,
+  element.Post,
+) (contents-at t) contents.Post contents-Inv-loop contents-μ-loop
+contents-loop-less t c =
+    let primitive = c .before in
+    let loop = primitive .before .before .before in
+    let start = loop .before .before .before in
+    let found = primitive .primitive .ensures (start .args .levels) (omega arith) (omega arith) in
+    omega (arith, rest-room (start .args .levels) (start .args .s .now) (loop .loop .at) (Good (primitive .primitive .result)) found (primitive .primitive .result) refl)
+
+contents-loop-again : (t : ℕ) → contents-lts.Need-loop-again (
+  primitive-reads.Asked,
+  primitive-reads.Learnt,
+  element-below t,
+  element.Post,
+) (contents-at t) contents.Post contents-Inv-loop contents-μ-loop
+contents-loop-again t c =
+    let primitive = c .before in
+    let loop = primitive .before .before .before in
+    let start = loop .before .before .before in
+    let found = primitive .primitive .ensures (start .args .levels) (omega arith) (omega arith) in (
+      omega (arith, rest-room (start .args .levels) (start .args .s .now) (loop .loop .at) (Good (primitive .primitive .result)) found (primitive .primitive .result) refl),
+      loop .loop .inv .1 ∙ rest-step (start .args .levels) (start .args .s .now) (loop .loop .at) (Good (primitive .primitive .result)) found (primitive .primitive .result) refl,
+    )
+
+contents-sub-element : (t : ℕ) → contents-lts.Need-sub-element (
+  primitive-reads.Asked,
+  primitive-reads.Learnt,
+  element-below t,
+  element.Post,
+) (contents-at t) contents.Post contents-Inv-loop contents-μ-loop
 contents-sub-element t c = omega arith
 
 contents-part-element-start : (t : ℕ) → contents-lts.Need-part-element-start (
+  primitive-reads.Asked,
+  primitive-reads.Learnt,
   element-below t,
   element.Post,
 ) (contents-at t) contents.Post contents-Inv-loop contents-μ-loop
 contents-part-element-start t c = omega arith
 
 contents-part-element-end : (t : ℕ) → contents-lts.Need-part-element-end (
+  primitive-reads.Asked,
+  primitive-reads.Learnt,
   element-below t,
   element.Post,
 ) (contents-at t) contents.Post contents-Inv-loop contents-μ-loop
 contents-part-element-end t c = search needs
 
 contents-element-requires : (t : ℕ) → contents-lts.Need-element-requires (
+  primitive-reads.Asked,
+  primitive-reads.Learnt,
   element-below t,
   element.Post,
 ) (contents-at t) contents.Post contents-Inv-loop contents-μ-loop
 contents-element-requires t c κs =
-    let loop = c .before .before in
-    let start = loop .before .before in
+    let loop = c .before .before .before .before .before in
+    let start = loop .before .before .before in
     (omega (arith, ap length (rest (start .args .s .now) (loop .loop .at)), length-drop (loop .loop .at) (start .args .s .now), start .pre .0), tt)
 
-contents-enum-told :
-    (t : ℕ) →
-    contents-lts.Need-enum-told
-    (element-below t, element.Post)
-    (contents-at t)
-    contents.Post
-    contents-Inv-loop
-    contents-μ-loop
+contents-enum-told : (t : ℕ) → contents-lts.Need-enum-told (
+  primitive-reads.Asked,
+  primitive-reads.Learnt,
+  element-below t,
+  element.Post,
+) (contents-at t) contents.Post contents-Inv-loop contents-μ-loop
 contents-enum-told t c = search needs
 
-contents-returns :
-    (t : ℕ) →
-    contents-lts.Need-returns
-    (element-below t, element.Post)
-    (contents-at t)
-    contents.Post
-    contents-Inv-loop
-    contents-μ-loop
-contents-returns t c =
+contents-returns-2 : (t : ℕ) → contents-lts.Need-returns-2 (
+  primitive-reads.Asked,
+  primitive-reads.Learnt,
+  element-below t,
+  element.Post,
+) (contents-at t) contents.Post contents-Inv-loop contents-μ-loop
+contents-returns-2 t c =
     let element = c .before .before in
-    let loop = element .before .before .before in
-    let start = loop .before .before in
-    sym (loop .loop .inv .1 ∙ rest-fault (start .args .levels) (start .args .s .now) (loop .loop .at) (element .element .result)
-    (element .element .ensures) (omega arith) (cc))
+    let loop = element .before .before .before .before .before .before in
+    let start = loop .before .before .before in
+    sym (loop .loop .inv .1 ∙ rest-fault (start .args .levels) (start .args .s .now) (loop .loop .at) (element .element .result) (element .element .ensures) (omega arith) (cc))
 
 contents-enum-known-len : (t : ℕ) → contents-lts.Need-enum-known-len (
+  primitive-reads.Asked,
+  primitive-reads.Learnt,
   element-below t,
   element.Post,
 ) (contents-at t) contents.Post contents-Inv-loop contents-μ-loop
 contents-enum-known-len t c = search needs
 
-contents-add-at :
-    (t : ℕ) →
-    contents-lts.Need-add-at
-    (element-below t, element.Post)
-    (contents-at t)
-    contents.Post
-    contents-Inv-loop
-    contents-μ-loop
-contents-add-at t c =
+contents-add-at-2 : (t : ℕ) → contents-lts.Need-add-at-2 (
+  primitive-reads.Asked,
+  primitive-reads.Learnt,
+  element-below t,
+  element.Post,
+) (contents-at t) contents.Post contents-Inv-loop contents-μ-loop
+contents-add-at-2 t c =
     let len = c .before in
     let element = len .before .before in
-    let loop = element .before .before .before in
-    let start = loop .before .before in
-    omega (
-      arith,
-      rest-room (start .args .levels) (start .args .s .now) (loop .loop .at) (element .element .result) (element .element .ensures)
-          (len .len .given .0 .0) (cc),
-      start .good,
-    )
+    let loop = element .before .before .before .before .before .before in
+    let start = loop .before .before .before in
+    omega (arith, rest-room (start .args .levels) (start .args .s .now) (loop .loop .at) (element .element .result) (element .element .ensures) (len .len .given .0 .0) (cc), start .good)
 
-contents-loop-less :
-    (t : ℕ) →
-    contents-lts.Need-loop-less
-    (element-below t, element.Post)
-    (contents-at t)
-    contents.Post
-    contents-Inv-loop
-    contents-μ-loop
-contents-loop-less t c =
+contents-loop-less-2 : (t : ℕ) → contents-lts.Need-loop-less-2 (
+  primitive-reads.Asked,
+  primitive-reads.Learnt,
+  element-below t,
+  element.Post,
+) (contents-at t) contents.Post contents-Inv-loop contents-μ-loop
+contents-loop-less-2 t c =
     let len = c .before in
     let element = len .before .before in
-    let loop = element .before .before .before in
-    let start = loop .before .before in
-    omega (
-      arith,
-      rest-room (start .args .levels) (start .args .s .now) (loop .loop .at) (element .element .result) (element .element .ensures)
-          (len .len .given .0 .0) (cc),
-    )
+    let loop = element .before .before .before .before .before .before in
+    let start = loop .before .before .before in
+    omega (arith, rest-room (start .args .levels) (start .args .s .now) (loop .loop .at) (element .element .result) (element .element .ensures) (len .len .given .0 .0) (cc))
 
-contents-loop-again :
-    (t : ℕ) →
-    contents-lts.Need-loop-again
-    (element-below t, element.Post)
-    (contents-at t)
-    contents.Post
-    contents-Inv-loop
-    contents-μ-loop
-contents-loop-again t c =
+contents-loop-again-2 : (t : ℕ) → contents-lts.Need-loop-again-2 (
+  primitive-reads.Asked,
+  primitive-reads.Learnt,
+  element-below t,
+  element.Post,
+) (contents-at t) contents.Post contents-Inv-loop contents-μ-loop
+contents-loop-again-2 t c =
     let len = c .before in
     let element = len .before .before in
-    let loop = element .before .before .before in
-    let start = loop .before .before in (
-      omega
-          (arith, rest-room (start .args .levels) (start .args .s .now) (loop .loop .at) (element .element .result) (element .element .ensures) (len .len .given .0 .0) (cc)),
-      loop .loop .inv .1 ∙ rest-step (start .args .levels) (start .args .s .now) (loop .loop .at) (element .element .result) (element .element .ensures)
-          (len .len .given .0 .0) (cc),
+    let loop = element .before .before .before .before .before .before in
+    let start = loop .before .before .before in (
+      omega (arith, rest-room (start .args .levels) (start .args .s .now) (loop .loop .at) (element .element .result) (element .element .ensures) (len .len .given .0 .0) (cc)),
+      loop .loop .inv .1 ∙ rest-step (start .args .levels) (start .args .s .now) (loop .loop .at) (element .element .result) (element .element .ensures) (len .len .given .0 .0) (cc),
     )
 
-contents-returns-2 :
-    (t : ℕ) →
-    contents-lts.Need-returns-2
-    (element-below t, element.Post)
-    (contents-at t)
-    contents.Post
-    contents-Inv-loop
-    contents-μ-loop
-contents-returns-2 t c =
+contents-returns-3 : (t : ℕ) → contents-lts.Need-returns-3 (
+  primitive-reads.Asked,
+  primitive-reads.Learnt,
+  element-below t,
+  element.Post,
+) (contents-at t) contents.Post contents-Inv-loop contents-μ-loop
+contents-returns-3 t c =
     let loop = c .before in
-    let start = loop .before .before in
+    let start = loop .before .before .before in
     sym (loop .loop .inv .1 ∙ rest-end (start .args .levels) (start .args .s .now) (loop .loop .at) (omega arith))
 
 element-returns : (t : ℕ) → element-lts.Need-returns (
@@ -409,6 +472,8 @@ element-returns-6 t c =
 
 pub +contents+element-spec : {M : Type 1} → statement M
 +contents+element-spec = close μ-contents μ-element (λ t. contents-lts.spec (
+  primitive-reads.Asked,
+  primitive-reads.Learnt,
   element-below t,
   element.Post,
 )
@@ -416,18 +481,26 @@ pub +contents+element-spec : {M : Type 1} → statement M
     contents.Post
     contents-Inv-loop
     contents-μ-loop
+    (contents-returns t)
     (contents-loop-holds t)
+    (contents-sub-primitive t)
+    (contents-part-primitive-start t)
+    (contents-part-primitive-end t)
+    (contents-primitive-requires t)
+    (contents-add-at t)
+    (contents-loop-less t)
+    (contents-loop-again t)
     (contents-sub-element t)
     (contents-part-element-start t)
     (contents-part-element-end t)
     (contents-element-requires t)
     (contents-enum-told t)
-    (contents-returns t)
+    (contents-returns-2 t)
     (contents-enum-known-len t)
-    (contents-add-at t)
-    (contents-loop-less t)
-    (contents-loop-again t)
-    (contents-returns-2 t))
+    (contents-add-at-2 t)
+    (contents-loop-less-2 t)
+    (contents-loop-again-2 t)
+    (contents-returns-3 t))
     λ t. element-lts.spec (
       header-of-reads.Asked,
       header-of-reads.Learnt,

@@ -1,0 +1,183 @@
+#!/usr/bin/env python3
+"""Measures the six calls: the same call by drive and by the second program, beside each other.
+
+Each case is a script of one call with its table and state. Both programs make that call N times from the same state, once
+for a small and once for a larger N; the difference, divided, is one call's cost, so that starting up and reading the script
+do not count. Instructions are counted by valgrind's callgrind, times are the best of several runs.
+Prints a table and writes docs/bench.svg. Where asn1c is installed, its bare decode of P2 is timed beside our whole receive.
+Use: python3 tests/bench/bench.py [WORD]   (WORD: only cases whose name contains it; no picture is written then)
+"""
+
+import pathlib
+import re
+import shutil
+import struct
+import subprocess
+import sys
+import tempfile
+import time
+
+HERE = pathlib.Path(__file__).resolve().parent
+TOP = HERE.parent.parent
+OURS = [str(TOP / "target/bin/drive")]
+SECOND = [str(TOP / "tests/second/target/release/second"), "repeat"]
+TABLE, STATE, RECEIVE, INVOKE, RESULT, ERROR = range(6)
+
+
+def frame(kind, payload=b"", lent=0, number=0, code=0, detail=0):
+    return struct.pack(">BBHiiiH", kind, detail, lent, number, code, 0, len(payload)) + payload
+
+
+def table(operations, errors=(), pairs=(), children=()):
+    parts = [b"".join(struct.pack(form, *entry) for entry in entries)
+             for form, entries in ((">iBBBB", operations), (">iBB", errors), (">HH", pairs), (">HH", children))]
+    header, offset = b"", 16
+    for part, count in zip(parts, map(len, (operations, errors, pairs, children))):
+        header += struct.pack(">HH", count, offset)
+        offset += len(part)
+    return header + b"".join(parts)
+
+
+def state(own=(), peer=()):
+    return b"".join(struct.pack(">H", len(side)) + b"".join(struct.pack(">ii", *record) for record in side) + bytes(8 * (32 - len(side)))
+                    for side in (own, peer))
+
+
+def element(identifier, contents):
+    size = len(contents)
+    if size < 0x80:
+        return bytes([identifier, size]) + contents
+    octets = size.to_bytes(2 if size > 255 else 1, "big")
+    return bytes([identifier, 0x80 + len(octets)]) + octets + contents
+
+
+def nested(octets, deep):
+    """An Invoke of so many octets; its argument is so many elements, one inside the other, the innermost full of integers."""
+    def invoke(integers, rest):
+        value = b"\x02\x01\x05" * integers + (element(4, bytes(rest - 2)) if rest >= 2 else b"")
+        for _ in range(deep):
+            value = element(0x30, value)
+        return element(0xA1, b"\x02\x01\x05\x02\x01\x07" + value)
+    for integers in range(octets // 3, -1, -1):
+        for rest in (0, 2, 3, 4, 5):
+            apdu = invoke(integers, rest)
+            if len(apdu) == octets:
+                return apdu
+    raise ValueError("no such APDU")
+
+
+T = bytes.fromhex("00010010000100180001001E000000220000000702020200000000010000" "00000000")
+WIDE = table([(7, 2, 0x30, 0x30, 3)])
+FULL = table([(i - 32, 2, 2, 2, 3) for i in range(64)], [(i - 32, 2, 1) for i in range(64)],
+             [(i // 4, i % 4 * 16) for i in range(256)], [(i // 4, i % 4 * 16) for i in range(256)])
+P2 = bytes.fromhex("A20B020105300602010702 0100".replace(" ", ""))
+P3 = bytes.fromhex("A306020105020101")
+P4 = bytes.fromhex("A203020105")
+ONE = state(own=[(5, 7)])
+ASKED = state(peer=[(5, 7)])
+
+
+def cases():
+    def case(name, octets, image, call):
+        return name, frame(TABLE, octets) + frame(STATE, image) + call
+    yield case("P1: invoke", T, state(own=[(4, 7)]), frame(INVOKE, b"\x02\x01\x03", 64, 5, 7))
+    yield case("P2: receive a result", T, ONE, frame(RECEIVE, P2, 11))
+    yield case("P3: receive an error", T, ONE, frame(RECEIVE, P3, 11))
+    yield case("P4: receive, refused with 18", T, ONE, frame(RECEIVE, P4, 11))
+    yield case("result", T, ASKED, frame(RESULT, b"\x02\x01\x0c", 64, 5))
+    yield case("error", T, ASKED, frame(ERROR, b"", 64, 5, 1))
+    for deep, said in ((1, "1"), (8, "8"), (14, "14, the deepest")):
+        for octets in (64, 512, 4096):
+            yield case(f"receive {octets} octets, argument nested {said}", WIDE, state(), frame(RECEIVE, nested(octets, deep), 11))
+    records = [(i, i - 32) for i in range(32)]
+    answer = bytes.fromhex("A20B02011F30060201FF02010C")
+    yield case("32 + 32 records, full table: receive a result", FULL, state(own=records, peer=records), frame(RECEIVE, answer, 11))
+
+
+def instructions(program, script, times):
+    with tempfile.TemporaryDirectory() as folder:
+        command = ["valgrind", "--tool=callgrind", f"--callgrind-out-file={folder}/out", *program, str(times)]
+        done = subprocess.run(command, input=script, capture_output=True, check=True)
+        return int(re.search(rb"Collected : (\d+)", done.stderr).group(1)), done.stdout
+
+
+def seconds(program, script, times, runs=5):
+    best = float("inf")
+    for _ in range(runs):
+        start = time.perf_counter()
+        subprocess.run([*program, str(times)], input=script, capture_output=True, check=True)
+        best = min(best, time.perf_counter() - start)
+    return best
+
+
+def cost(program, script):
+    """Instructions and nanoseconds of one call, and the line that it answered."""
+    (few, line), (many, again) = instructions(program, script, 100), instructions(program, script, 1100)
+    assert line == again, "another answer the second time"
+    once = (many - few) / 1000
+    times = max(2000, int(4e7 / max(once, 1)))
+    spent = seconds(program, script, times) - seconds(program, script, 1)
+    return once, spent / times * 1e9, line
+
+
+def row(name, script):
+    ours, our_time, line = cost(OURS, script)
+    theirs, their_time, their_line = cost(SECOND, script)
+    assert line == their_line, f"{name}: the two answer differently:\n{line}{their_line}"
+    return name, ours, theirs, ours / theirs, our_time, their_time, our_time / their_time
+
+
+def asn1c():
+    """Nanoseconds of one bare decode of P2 by asn1c's decoder, or nothing where asn1c is not installed."""
+    if not shutil.which("asn1c"):
+        return None
+    with tempfile.TemporaryDirectory() as folder:
+        subprocess.run(["asn1c", "-fcompound-names", str(HERE / "rose.asn1")], cwd=folder, capture_output=True, check=True)
+        (pathlib.Path(folder) / "converter-sample.c").unlink()
+        sources = sorted(str(path) for path in pathlib.Path(folder).glob("*.c"))
+        program = [f"{folder}/decode"]
+        subprocess.run(["gcc", "-O2", "-w", f"-I{folder}", "-o", *program, *sources, str(HERE / "decode.c")], check=True)
+        return (seconds(program, b"", 300_000) - seconds(program, b"", 1)) / 300_000 * 1e9
+
+
+def picture(rows):
+    """A bar for each case: our instructions over the second program's, with a line at 1."""
+    high, left, scale = 24, 330, 110
+    most = max(3, *(r[3] for r in rows))
+    width, height = int(left + most * scale + 70), high * len(rows) + 50
+    out = [f'<svg xmlns="http://www.w3.org/2000/svg" viewBox="0 0 {width} {height}" role="img" '
+           'aria-label="Instructions of a call, over those of the second program">',
+           "<style>text{font:12px sans-serif;fill:#1b1f24}.bar{fill:#4a7fb5}.one{stroke:#1b1f24;stroke-dasharray:4 3}"
+           "@media(prefers-color-scheme:dark){text{fill:#e6edf3}.bar{fill:#79b8ff}.one{stroke:#e6edf3}}</style>",
+           f'<text x="{left}" y="16">instructions of a call, over those of the second program</text>']
+    for place, (name, _, _, ratio, *_) in enumerate(rows):
+        y = 30 + place * high
+        out.append(f'<text x="{left - 8}" y="{y + 12}" text-anchor="end">{name}</text>'
+                   f'<rect class="bar" x="{left}" y="{y}" width="{ratio * scale:.0f}" height="16"/>'
+                   f'<text x="{left + ratio * scale + 6:.0f}" y="{y + 12}">{ratio:.2f}</text>')
+    out.append(f'<line class="one" x1="{left + scale}" x2="{left + scale}" y1="24" y2="{height - 14}"/></svg>')
+    (TOP / "docs/bench.svg").write_text("\n".join(out) + "\n")
+
+
+def main():
+    word = sys.argv[1] if len(sys.argv) > 1 else ""
+    for program in (OURS[0], SECOND[0]):
+        if not pathlib.Path(program).exists():
+            sys.exit(f"bench: {program} is missing; make bench builds it")
+    if not shutil.which("valgrind"):
+        sys.exit("bench: valgrind is missing; it counts the instructions")
+    print("| call | instructions | second's | ratio | ns | second's | ratio |\n|---|---|---|---|---|---|---|", flush=True)
+    rows = []
+    for name, script in cases():
+        if word in name:
+            rows.append(row(name, script))
+            print("| {} | {:,.0f} | {:,.0f} | {:.2f} | {:,.0f} | {:,.0f} | {:.2f} |".format(*rows[-1]), flush=True)
+    bare = asn1c()
+    for name, _, _, _, ours, *_ in rows:
+        if bare and name.startswith("P2"):
+            print(f"\nasn1c's bare decode of P2: {bare:,.0f} ns; the whole receive of P2 is {ours / bare:.2f} of it")
+    if not word:
+        picture(rows)
+
+
+main()
