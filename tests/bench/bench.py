@@ -3,19 +3,19 @@
 
 Each case is a script of one call with its table and state. Both programs make that call N times from the same state, once
 for a small and once for a larger N; the difference, divided, is one call's cost, so that starting up and reading the script
-do not count. Instructions are counted by valgrind's callgrind, times are the best of several runs.
+do not count. Instructions are counted by valgrind's callgrind, times are processor time, the least of several runs.
 Prints a table and writes docs/bench.svg. Where asn1c is installed, its bare decode of P2 is timed beside our whole receive.
 Use: python3 tests/bench/bench.py [WORD]   (WORD: only cases whose name contains it; no picture is written then)
 """
 
 import pathlib
 import re
+import resource
 import shutil
 import struct
 import subprocess
 import sys
 import tempfile
-import time
 
 HERE = pathlib.Path(__file__).resolve().parent
 TOP = HERE.parent.parent
@@ -86,9 +86,9 @@ def cases():
     yield case("P4: receive, refused with 18", T, ONE, frame(RECEIVE, P4, 11))
     yield case("result", T, ASKED, frame(RESULT, b"\x02\x01\x0c", 64, 5))
     yield case("error", T, ASKED, frame(ERROR, b"", 64, 5, 1))
-    for deep, said in ((1, "1"), (8, "8"), (14, "14, the deepest")):
+    for deep in (1, 8, 14):  # 14 make 16 levels, with the APDU around them and the integers inside
         for octets in (64, 512, 4096):
-            yield case(f"receive {octets} octets, argument nested {said}", WIDE, state(), frame(RECEIVE, nested(octets, deep), 11))
+            yield case(f"receive {octets} octets, argument nested {deep}", WIDE, state(), frame(RECEIVE, nested(octets, deep), 11))
     records = [(i, i - 32) for i in range(32)]
     answer = bytes.fromhex("A20B02011F30060201FF02010C")
     yield case("32 + 32 records, full table: receive a result", FULL, state(own=records, peer=records), frame(RECEIVE, answer, 11))
@@ -102,11 +102,12 @@ def instructions(program, script, times):
 
 
 def seconds(program, script, times, runs=5):
+    """The least processor time that a run took."""
     best = float("inf")
     for _ in range(runs):
-        start = time.perf_counter()
+        before = resource.getrusage(resource.RUSAGE_CHILDREN).ru_utime
         subprocess.run([*program, str(times)], input=script, capture_output=True, check=True)
-        best = min(best, time.perf_counter() - start)
+        best = min(best, resource.getrusage(resource.RUSAGE_CHILDREN).ru_utime - before)
     return best
 
 
@@ -115,7 +116,7 @@ def cost(program, script):
     (few, line), (many, again) = instructions(program, script, 100), instructions(program, script, 1100)
     assert line == again, "another answer the second time"
     once = (many - few) / 1000
-    times = max(2000, int(4e7 / max(once, 1)))
+    times = int(3e8 / max(once, 1))
     spent = seconds(program, script, times) - seconds(program, script, 1)
     return once, spent / times * 1e9, line
 
@@ -128,7 +129,7 @@ def row(name, script):
 
 
 def asn1c():
-    """Nanoseconds of one bare decode of P2 by asn1c's decoder, or nothing where asn1c is not installed."""
+    """Instructions and nanoseconds of one bare decode of P2 by asn1c's decoder, or nothing where asn1c is not installed."""
     if not shutil.which("asn1c"):
         return None
     with tempfile.TemporaryDirectory() as folder:
@@ -137,12 +138,13 @@ def asn1c():
         sources = sorted(str(path) for path in pathlib.Path(folder).glob("*.c"))
         program = [f"{folder}/decode"]
         subprocess.run(["gcc", "-O2", "-w", f"-I{folder}", "-o", *program, *sources, str(HERE / "decode.c")], check=True)
-        return (seconds(program, b"", 300_000) - seconds(program, b"", 1)) / 300_000 * 1e9
+        once = (instructions(program, b"", 1100)[0] - instructions(program, b"", 100)[0]) / 1000
+        return once, (seconds(program, b"", 100_000) - seconds(program, b"", 1)) / 100_000 * 1e9
 
 
 def picture(rows):
     """A bar for each case: our instructions over the second program's, with a line at 1."""
-    high, left, scale = 24, 330, 110
+    high, left, scale = 24, 320, 110
     most = max(3, *(r[3] for r in rows))
     width, height = int(left + most * scale + 70), high * len(rows) + 50
     out = [f'<svg xmlns="http://www.w3.org/2000/svg" viewBox="0 0 {width} {height}" role="img" '
@@ -154,7 +156,7 @@ def picture(rows):
         y = 30 + place * high
         out.append(f'<text x="{left - 8}" y="{y + 12}" text-anchor="end">{name}</text>'
                    f'<rect class="bar" x="{left}" y="{y}" width="{ratio * scale:.0f}" height="16"/>'
-                   f'<text x="{left + ratio * scale + 6:.0f}" y="{y + 12}">{ratio:.2f}</text>')
+                   f'<text x="{left + max(ratio, 1) * scale + 6:.0f}" y="{y + 12}">{ratio:.2f}</text>')
     out.append(f'<line class="one" x1="{left + scale}" x2="{left + scale}" y1="24" y2="{height - 14}"/></svg>')
     (TOP / "docs/bench.svg").write_text("\n".join(out) + "\n")
 
@@ -173,9 +175,10 @@ def main():
             rows.append(row(name, script))
             print("| {} | {:,.0f} | {:,.0f} | {:.2f} | {:,.0f} | {:,.0f} | {:.2f} |".format(*rows[-1]), flush=True)
     bare = asn1c()
-    for name, _, _, _, ours, *_ in rows:
+    for name, ours, _, _, our_time, *_ in rows:
         if bare and name.startswith("P2"):
-            print(f"\nasn1c's bare decode of P2: {bare:,.0f} ns; the whole receive of P2 is {ours / bare:.2f} of it")
+            print("\nasn1c's bare decode of P2: {:,.0f} instructions, {:,.0f} ns; our whole receive of P2 is {:.2f} and {:.2f} of it".format(
+                *bare, ours / bare[0], our_time / bare[1]))
     if not word:
         picture(rows)
 
