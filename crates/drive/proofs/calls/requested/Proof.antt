@@ -2,8 +2,8 @@
 use borrow.Author.Needs.{needs}
 use mathlib.Core.Path.{_≡_}
 use lib.ListN.{length}
-use Rattle.drive.proofs.requested.Statement.{statement}
-use Rattle.drive.proofs.requested.Tie as tie
+use Rattle.drive.proofs.calls.requested.Statement.{statement}
+use Rattle.drive.proofs.calls.requested.Tie as tie
 
 abbrev Inv-loop : tie.InvT-loop
 Inv-loop times f state table value out₀ r₀ left₀ out r left = length out ≡ length out₀

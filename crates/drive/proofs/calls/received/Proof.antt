@@ -2,8 +2,8 @@
 use borrow.Author.Needs.{needs}
 use mathlib.Core.Path.{_≡_}
 use lib.ListN.{length}
-use Rattle.drive.proofs.received.Statement.{statement}
-use Rattle.drive.proofs.received.Tie as tie
+use Rattle.drive.proofs.calls.received.Statement.{statement}
+use Rattle.drive.proofs.calls.received.Tie as tie
 
 abbrev Inv-loop : tie.InvT-loop
 Inv-loop times state table x out₀ r₀ left₀ out r left = length out ≡ length out₀

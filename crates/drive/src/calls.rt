@@ -1,0 +1,130 @@
+// The six calls of frames: each is made, once or so many times from the state as it was, and its line written.
+use crate::answer::emit;
+use crate::answer::outcome_line;
+use crate::answer::reception_line;
+use crate::text::fill;
+use protocol::Invocation;
+use protocol::PeerLink;
+use protocol::Received;
+use protocol::Requested;
+use records::Code;
+use records::OwnId;
+use records::PeerId;
+use records::State;
+
+// The numbers before a frame's payload, as docs/DRIVE.md has them.
+pub(crate) struct Frame {
+    pub(crate) kind: u8,
+    pub(crate) flag: u8,
+    pub(crate) room: usize,
+    pub(crate) id: u32,
+    pub(crate) code: u32,
+    pub(crate) linked: u32,
+    pub(crate) size: usize,
+}
+
+fn link(f: Frame) -> PeerLink {
+    if f.flag == 1 {
+        return PeerLink::To(PeerId(f.linked));
+    }
+    PeerLink::Absent
+}
+
+fn invocation(f: Frame) -> Invocation {
+    if f.flag == 0 {
+        return Invocation::Own(OwnId(f.id));
+    }
+    Invocation::Peer(PeerId(f.id))
+}
+
+// The state to make a call from once more: the one that was given, which the compiler must not know in advance.
+fn given_again(written: usize, then: State, given: State) -> State {
+    if written > State::OCTETS {
+        return then;
+    }
+    given
+}
+
+fn received(times: u64, state: State, table: &[u8], x: &[u8], out: &mut [u8]) -> Received {
+    let mut r = rose::receive(state, table, x, out);
+    let mut left = times;
+    while left > 1 {
+        let given = given_again(r.written, r.state, state);
+        r = rose::receive(given, table, x, out);
+        left -= 1;
+    }
+    r
+}
+
+fn receive(
+    times: u64,
+    state: State,
+    table: &[u8],
+    x: &[u8],
+    out: &mut [u8],
+    line: &mut [u8],
+) -> State {
+    let r = received(times, state, table, x, out);
+    let reception = r.reception;
+    let next = r.state;
+    let at = reception_line(line, x, reception);
+    emit(line, at, next, out, r.written);
+    next
+}
+
+fn request(f: Frame, state: State, table: &[u8], value: &[u8], out: &mut [u8]) -> Requested {
+    let kind = f.kind;
+    if kind == 3 {
+        return rose::invoke(state, table, OwnId(f.id), Code(f.code), link(f), value, out);
+    }
+    if kind == 4 {
+        return rose::result(state, table, PeerId(f.id), value, out);
+    }
+    if kind == 5 {
+        return rose::error(state, table, PeerId(f.id), Code(f.code), value, out);
+    }
+    if kind == 6 {
+        return rose::reject(state, table, PeerId(f.id), f.flag, out);
+    }
+    rose::forget(state, table, invocation(f))
+}
+
+fn requested(
+    times: u64,
+    f: Frame,
+    state: State,
+    table: &[u8],
+    value: &[u8],
+    out: &mut [u8],
+) -> Requested {
+    let mut r = request(f, state, table, value, out);
+    let mut left = times;
+    while left > 1 {
+        let given = given_again(r.written, r.state, state);
+        r = request(f, given, table, value, out);
+        left -= 1;
+    }
+    r
+}
+
+// A call, made so many times, and its line.
+pub(crate) fn call(
+    times: u64,
+    f: Frame,
+    state: State,
+    table: &[u8],
+    payload: &[u8],
+    out: &mut [u8],
+    line: &mut [u8],
+) -> State {
+    fill(out);
+    if f.kind == 2 {
+        return receive(times, state, table, payload, out, line);
+    }
+    let r = requested(times, f, state, table, payload, out);
+    let outcome = r.outcome;
+    let next = r.state;
+    let at = outcome_line(line, f.kind == 7, outcome);
+    emit(line, at, next, out, r.written);
+    next
+}
