@@ -86,4 +86,21 @@ returns-3 c =
     (retire-peer .retire-peer .ensures) (write-error .write-error .ensures)
 
 pub error-spec : {M : Type 1} → statement M
-error-spec = tie.close (tie.spec opening-requires enum-known-why refused-requires returns enum-told check-error-requires enum-known-why-2 refused-requires-2 returns-2 enum-told-2 write-error-requires retire-peer-requires accepted-requires same-length returns-3)
+error-spec =
+    tie.close
+    (tie.spec
+    opening-requires
+    enum-known-why
+    refused-requires
+    returns
+    enum-told
+    check-error-requires
+    enum-known-why-2
+    refused-requires-2
+    returns-2
+    enum-told-2
+    write-error-requires
+    retire-peer-requires
+    accepted-requires
+    same-length
+    returns-3)

@@ -76,4 +76,19 @@ returns-3 c =
     (forgotten .forgotten .result) (forgotten .forgotten .ensures) _ (c .accepted .ensures)
 
 pub forget-spec : {M : Type 1} → statement M
-forget-spec = tie.close (tie.spec opening-requires enum-known-why refused-requires returns enum-told check-forget-requires enum-known-why-2 refused-requires-2 returns-2 enum-told-2 forgotten-requires accepted-requires returns-3)
+forget-spec =
+    tie.close
+    (tie.spec
+    opening-requires
+    enum-known-why
+    refused-requires
+    returns
+    enum-told
+    check-forget-requires
+    enum-known-why-2
+    refused-requires-2
+    returns-2
+    enum-told-2
+    forgotten-requires
+    accepted-requires
+    returns-3)

@@ -107,4 +107,22 @@ returns-3 c =
     (link-number .link-number .result) (link-number .link-number .ensures) (with-own .with-own .ensures) (write-invoke .write-invoke .ensures)
 
 pub invoke-spec : {M : Type 1} → statement M
-invoke-spec = tie.close (tie.spec opening-requires enum-known-why refused-requires returns enum-told check-invoke-requires enum-known-why-2 refused-requires-2 returns-2 enum-told-2 link-number-requires write-invoke-requires with-own-requires accepted-requires same-length returns-3)
+invoke-spec =
+    tie.close
+    (tie.spec
+    opening-requires
+    enum-known-why
+    refused-requires
+    returns
+    enum-told
+    check-invoke-requires
+    enum-known-why-2
+    refused-requires-2
+    returns-2
+    enum-told-2
+    link-number-requires
+    write-invoke-requires
+    with-own-requires
+    accepted-requires
+    same-length
+    returns-3)

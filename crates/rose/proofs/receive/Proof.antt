@@ -77,4 +77,19 @@ returns-4 c =
     (write-answer .write-answer .ensures)
 
 pub receive-spec : {M : Type 1} → statement M
-receive-spec = tie.close (tie.spec opening-requires enum-known-why unheard-requires returns enum-told unheard-requires-2 returns-2 unheard-requires-3 returns-3 arrive-requires write-answer-requires same-length returns-4)
+receive-spec =
+    tie.close
+    (tie.spec
+    opening-requires
+    enum-known-why
+    unheard-requires
+    returns
+    enum-told
+    unheard-requires-2
+    returns-2
+    unheard-requires-3
+    returns-3
+    arrive-requires
+    write-answer-requires
+    same-length
+    returns-4)

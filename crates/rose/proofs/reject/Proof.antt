@@ -80,4 +80,21 @@ returns-3 c =
     (retire-peer .retire-peer .ensures) (write-reject .write-reject .ensures)
 
 pub reject-spec : {M : Type 1} → statement M
-reject-spec = tie.close (tie.spec opening-requires enum-known-why refused-requires returns enum-told check-reject-requires enum-known-why-2 refused-requires-2 returns-2 enum-told-2 write-reject-requires retire-peer-requires accepted-requires same-length returns-3)
+reject-spec =
+    tie.close
+    (tie.spec
+    opening-requires
+    enum-known-why
+    refused-requires
+    returns
+    enum-told
+    check-reject-requires
+    enum-known-why-2
+    refused-requires-2
+    returns-2
+    enum-told-2
+    write-reject-requires
+    retire-peer-requires
+    accepted-requires
+    same-length
+    returns-3)

@@ -100,4 +100,22 @@ returns-3 c =
     (peer-code .peer-code .result) (peer-code .peer-code .ensures) (retire-peer .retire-peer .ensures) (write-result .write-result .ensures)
 
 pub result-spec : {M : Type 1} → statement M
-result-spec = tie.close (tie.spec opening-requires enum-known-why refused-requires returns enum-told check-result-requires enum-known-why-2 refused-requires-2 returns-2 enum-told-2 peer-code-requires write-result-requires retire-peer-requires accepted-requires same-length returns-3)
+result-spec =
+    tie.close
+    (tie.spec
+    opening-requires
+    enum-known-why
+    refused-requires
+    returns
+    enum-told
+    check-result-requires
+    enum-known-why-2
+    refused-requires-2
+    returns-2
+    enum-told-2
+    peer-code-requires
+    write-result-requires
+    retire-peer-requires
+    accepted-requires
+    same-length
+    returns-3)

@@ -118,4 +118,28 @@ returns-7 c =
     (Reject (id5 .id5 .given .0 .0) (id5 .id5 .given .0 .1 .0) (id5 .id5 .given .0 .1 .1 .0)) (cc) _ (c .arrive-reject .ensures)
 
 pub arrive-spec : {M : Type 1} → statement M
-arrive-spec = tie.close (tie.spec parse-requires enum-told arrive-wrong-requires enum-told-2 arrive-wrong-requires-2 enum-known-id arrive-wrong-requires-3 enum-known-id-2 arrive-invoke-requires enum-known-id-3 arrive-result-requires enum-known-id-4 arrive-error-requires enum-known-id-5 arrive-reject-requires returns returns-2 returns-3 returns-4 returns-5 returns-6 returns-7)
+arrive-spec =
+    tie.close
+    (tie.spec
+    parse-requires
+    enum-told
+    arrive-wrong-requires
+    enum-told-2
+    arrive-wrong-requires-2
+    enum-known-id
+    arrive-wrong-requires-3
+    enum-known-id-2
+    arrive-invoke-requires
+    enum-known-id-3
+    arrive-result-requires
+    enum-known-id-4
+    arrive-error-requires
+    enum-known-id-5
+    arrive-reject-requires
+    returns
+    returns-2
+    returns-3
+    returns-4
+    returns-5
+    returns-6
+    returns-7)

@@ -49,4 +49,16 @@ returns-2 c =
     (c .indicated .ensures)
 
 pub arrive-error-spec : {M : Type 1} → statement M
-arrive-error-spec = tie.close (tie.spec check-error-requires enum-known-why refused-requires enum-told own-code-requires retire-own-requires field-code-requires indicated-requires returns returns-2)
+arrive-error-spec =
+    tie.close
+    (tie.spec
+    check-error-requires
+    enum-known-why
+    refused-requires
+    enum-told
+    own-code-requires
+    retire-own-requires
+    field-code-requires
+    indicated-requires
+    returns
+    returns-2)

@@ -55,4 +55,16 @@ returns-2 c =
     (with-peer .with-peer .result) (with-peer .with-peer .ensures) (c .indicated .ensures)
 
 pub arrive-invoke-spec : {M : Type 1} → statement M
-arrive-invoke-spec = tie.close (tie.spec check-invoke-requires enum-known-why refused-requires enum-told field-code-requires with-peer-requires own-link-requires indicated-requires returns returns-2)
+arrive-invoke-spec =
+    tie.close
+    (tie.spec
+    check-invoke-requires
+    enum-known-why
+    refused-requires
+    enum-told
+    field-code-requires
+    with-peer-requires
+    own-link-requires
+    indicated-requires
+    returns
+    returns-2)

@@ -215,4 +215,31 @@ returns-7 c =
     (said-yes (is-right .is-right .ensures) (c .if6 .left))
 
 pub check-error-spec : {M : Type 1} → statement M
-check-error-spec = tie.close (tie.spec has-own-requires problem-requires returns own-code-requires operation-named-requires class-requires is-class-requires problem-requires-2 returns-2 field-code-requires error-named-requires is-local-requires problem-requires-3 returns-3 is-known-requires problem-requires-4 returns-4 is-paired-requires problem-requires-5 returns-5 parameter-requires is-right-requires problem-requires-6 returns-6 returns-7)
+check-error-spec =
+    tie.close
+    (tie.spec
+    has-own-requires
+    problem-requires
+    returns
+    own-code-requires
+    operation-named-requires
+    class-requires
+    is-class-requires
+    problem-requires-2
+    returns-2
+    field-code-requires
+    error-named-requires
+    is-local-requires
+    problem-requires-3
+    returns-3
+    is-known-requires
+    problem-requires-4
+    returns-4
+    is-paired-requires
+    problem-requires-5
+    returns-5
+    parameter-requires
+    is-right-requires
+    problem-requires-6
+    returns-6
+    returns-7)

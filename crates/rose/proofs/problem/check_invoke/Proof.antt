@@ -233,4 +233,32 @@ returns-8 c =
     (sym (lacks-room .lacks-room .ensures) ∙ c .if7 .left)
 
 pub check-invoke-spec : {M : Type 1} → statement M
-check-invoke-spec = tie.close (tie.spec has-peer-requires problem-requires returns check-parent-requires fails-requires returns-2 field-code-requires operation-named-requires is-local-requires problem-requires-2 returns-3 is-listed-requires problem-requires-3 returns-4 argument-requires is-right-requires problem-requires-4 returns-5 check-child-requires fails-requires-2 returns-6 class-requires lacks-room-requires problem-requires-5 returns-7 returns-8)
+check-invoke-spec =
+    tie.close
+    (tie.spec
+    has-peer-requires
+    problem-requires
+    returns
+    check-parent-requires
+    fails-requires
+    returns-2
+    field-code-requires
+    operation-named-requires
+    is-local-requires
+    problem-requires-2
+    returns-3
+    is-listed-requires
+    problem-requires-3
+    returns-4
+    argument-requires
+    is-right-requires
+    problem-requires-4
+    returns-5
+    check-child-requires
+    fails-requires-2
+    returns-6
+    class-requires
+    lacks-room-requires
+    problem-requires-5
+    returns-7
+    returns-8)

@@ -66,4 +66,17 @@ returns-4 c =
     (said-yes (has-child .has-child .ensures .in-valid (start .pre)) (c .if2 .left))
 
 pub check-parent-spec : {M : Type 1} → statement M
-check-parent-spec = tie.close (tie.spec enum-told enum-known-linked has-own-requires problem-requires returns own-code-requires has-child-requires problem-requires-2 returns-2 returns-3 returns-4)
+check-parent-spec =
+    tie.close
+    (tie.spec
+    enum-told
+    enum-known-linked
+    has-own-requires
+    problem-requires
+    returns
+    own-code-requires
+    has-child-requires
+    problem-requires-2
+    returns-2
+    returns-3
+    returns-4)

@@ -137,4 +137,24 @@ returns-5 c =
     (moved (valueRight (result .result .result)) _ _ _ (body-value .body-value .ensures (start .args .x .now)) (said-yes (is-right .is-right .ensures) (c .if4 .left)))
 
 pub check-result-spec : {M : Type 1} → statement M
-check-result-spec = tie.close (tie.spec has-own-requires problem-requires returns own-code-requires operation-named-requires class-requires is-class-requires problem-requires-2 returns-2 is-other-requires problem-requires-3 returns-3 result-requires body-value-requires is-right-requires problem-requires-4 returns-4 returns-5)
+check-result-spec =
+    tie.close
+    (tie.spec
+    has-own-requires
+    problem-requires
+    returns
+    own-code-requires
+    operation-named-requires
+    class-requires
+    is-class-requires
+    problem-requires-2
+    returns-2
+    is-other-requires
+    problem-requires-3
+    returns-3
+    result-requires
+    body-value-requires
+    is-right-requires
+    problem-requires-4
+    returns-4
+    returns-5)

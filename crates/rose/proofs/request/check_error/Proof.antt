@@ -167,4 +167,25 @@ returns-6 c =
     (c .check-size .ensures (encodeError (start .args .id .0) (start .args .code) (given (start .args .value .now))) (error-size .error-size .ensures))
 
 pub check-error-spec : {M : Type 1} → statement M
-check-error-spec = tie.close (tie.spec has-peer-requires returns peer-code-requires operation-named-requires class-requires is-class-requires returns-2 error-named-requires is-known-requires returns-3 is-paired-requires returns-4 parameter-requires check-value-requires fails-requires returns-5 error-size-requires check-size-requires returns-6)
+check-error-spec =
+    tie.close
+    (tie.spec
+    has-peer-requires
+    returns
+    peer-code-requires
+    operation-named-requires
+    class-requires
+    is-class-requires
+    returns-2
+    error-named-requires
+    is-known-requires
+    returns-3
+    is-paired-requires
+    returns-4
+    parameter-requires
+    check-value-requires
+    fails-requires
+    returns-5
+    error-size-requires
+    check-size-requires
+    returns-6)

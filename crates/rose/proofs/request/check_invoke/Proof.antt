@@ -185,4 +185,27 @@ returns-7 c =
     (c .check-size .ensures (encodeInvoke (start .args .id .0) (link-number .link-number .result) (start .args .code) (given (start .args .value .now))) (invoke-size .invoke-size .ensures))
 
 pub check-invoke-spec : {M : Type 1} → statement M
-check-invoke-spec = tie.close (tie.spec operation-named-requires is-listed-requires returns has-own-requires returns-2 is-busy-requires returns-3 check-linked-requires fails-requires returns-4 argument-requires check-value-requires fails-requires-2 returns-5 class-requires lacks-room-requires returns-6 link-number-requires invoke-size-requires check-size-requires returns-7)
+check-invoke-spec =
+    tie.close
+    (tie.spec
+    operation-named-requires
+    is-listed-requires
+    returns
+    has-own-requires
+    returns-2
+    is-busy-requires
+    returns-3
+    check-linked-requires
+    fails-requires
+    returns-4
+    argument-requires
+    check-value-requires
+    fails-requires-2
+    returns-5
+    class-requires
+    lacks-room-requires
+    returns-6
+    link-number-requires
+    invoke-size-requires
+    check-size-requires
+    returns-7)

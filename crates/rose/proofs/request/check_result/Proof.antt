@@ -107,4 +107,20 @@ returns-4 c =
     (result-size .result-size .ensures ∙ ap (λ (k : Code). length (encodeResult (start .args .id .0) k (given (start .args .value .now)))) (peer-code .peer-code .ensures)))
 
 pub check-result-spec : {M : Type 1} → statement M
-check-result-spec = tie.close (tie.spec has-peer-requires returns peer-code-requires operation-named-requires class-requires is-class-requires returns-2 result-requires check-value-requires fails-requires returns-3 result-size-requires check-size-requires returns-4)
+check-result-spec =
+    tie.close
+    (tie.spec
+    has-peer-requires
+    returns
+    peer-code-requires
+    operation-named-requires
+    class-requires
+    is-class-requires
+    returns-2
+    result-requires
+    check-value-requires
+    fails-requires
+    returns-3
+    result-size-requires
+    check-size-requires
+    returns-4)
