@@ -10,11 +10,8 @@ use lib.Dec.{eqb, ltb}
 use Rattle.optable.specs.declared.Part.{Part}
 use Rattle.optable.specs.declared.Part.the-variants.{Operations, Errors, ErrorPairs, ChildPairs}
 use Rattle.optable.specs.declared.Rule.{Rule}
-use Rattle.optable.specs.declared.Operation.{Operation}
-use Rattle.optable.specs.declared.Error.{Error}
-use Rattle.optable.specs.Read.{count, start, below, codeAt, classAt, flagsAt, operationAt, flagAt, parameterAt, errorAt, firstAt, secondAt, secondPart}
+use Rattle.optable.specs.Read.{count, start, below, codeAt, classAt, flagAt, parameterAt, firstAt, secondAt, secondPart}
 use Rattle.optable.specs.Validity.{behind, laidOut, ruleRight, operationRight, errorRight, indexed, allowed, pairRight, coded, pairBelow, above, rises, fieldsRight, entryRight}
-use Rattle.optable.specs.Lookup.{classOf, argumentOf, resultOf, parameterOf}
 
 -- ---- the header
 
@@ -96,15 +93,9 @@ module _ (t : List ℕ) (i : ℕ) where
   unfolding fieldsRight errorRight
   error-flag-high h = simp (lt-leb _ _ h)
 
-  pub error-rule-decides : {o : Error} {p : Rule} {b : Bool} → flagAt t i ≤ 1 → o ≡ errorAt t i → p ≡ parameterOf o → b ≡ ruleRight p → b ≡ fieldsRight t Errors i
-  unfolding errorAt fieldsRight errorRight
-  error-rule-decides {o} {p} {b} h e f g =
-      let r : b ≡ ruleRight (parameterAt t i) = rw (f, e) at g in
-      r ∙ simp (le-leb _ _ h)
-
-  pub operation-fields-decide : {o : Operation} {c f : ℕ} {a r : Rule} {b : Bool} → o ≡ operationAt t i → f ≡ flagsAt t i → c ≡ classOf o → a ≡ argumentOf o → r ≡ resultOf o → b ≡ operationRight c f a r → b ≡ fieldsRight t Operations i
-  unfolding operationAt fieldsRight
-  operation-fields-decide {o} {c} {f} {a} {r} {b} e e1 e2 e3 e4 g = rw (e2, e3, e4, e1, e) at g
+  pub error-rule-decides : {b : Bool} → flagAt t i ≤ 1 → b ≡ ruleRight (parameterAt t i) → b ≡ fieldsRight t Errors i
+  unfolding fieldsRight errorRight
+  error-rule-decides {b} h g = g ∙ simp (le-leb _ _ h)
 
 -- ---- pairs
 

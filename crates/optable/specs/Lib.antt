@@ -3,5 +3,6 @@ pub mod Count
 pub mod Read
 pub mod Validity
 pub mod Fault
+pub mod Walk
 pub mod Lookup
 pub mod Value

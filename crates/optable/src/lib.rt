@@ -7,6 +7,7 @@ ghost use Rattle.ber.specs.Element.{given};
 ghost use Rattle.optable.specs.Value.{valueRight};
 
 mod answer;
+mod entry;
 mod lookup;
 pub mod read;
 mod validity;

@@ -9,7 +9,7 @@ use crate::Part;
 use crate::Rule;
 use records::Code;
 
-fn octet(table: &[u8], at: usize) -> u8
+pub(crate) fn octet(table: &[u8], at: usize) -> u8
     ensures { λ r. ⌜ r ≡ getD (now (table .entry)) at 0 ⌝ }
 {
     if at < table.len() {
@@ -19,7 +19,7 @@ fn octet(table: &[u8], at: usize) -> u8
 }
 
 // One look at the length where both octets are there.
-fn two(table: &[u8], at: usize) -> u16
+pub(crate) fn two(table: &[u8], at: usize) -> u16
     requires { ⌜ at < 1048576 ⌝ }
     ensures { λ r. ⌜ r ≡ u16 (now (table .entry)) at ⌝ }
 {
@@ -29,7 +29,7 @@ fn two(table: &[u8], at: usize) -> u16
     (octet(table, at) as u16) * 256
 }
 
-fn four(table: &[u8], at: usize) -> u32
+pub(crate) fn four(table: &[u8], at: usize) -> u32
     requires { ⌜ at < 1048574 ⌝ }
     ensures { λ r. ⌜ r ≡ u32 (now (table .entry)) at ⌝ }
 {
@@ -49,7 +49,7 @@ fn head_of(part: Part) -> usize
     }
 }
 
-fn size_of(part: Part) -> usize
+pub(crate) fn size_of(part: Part) -> usize
     ensures { λ r. ⌜ (r ≡ sizeOf part) × (r ≤ 8) ⌝ }
 {
     match part {

@@ -12,6 +12,7 @@ use Rattle.records.specs.declared.Code.{Code}
 use Rattle.records.specs.declared.Record.{Record}
 use Rattle.records.specs.declared.Records.{Records}
 use Rattle.records.specs.declared.State.{State}
+use Rattle.records.specs.declared.Found.{Found}
 use Rattle.records.specs.declared.Found.the-variants.{Operation}
 use Rattle.records.specs.Records.{unused, view, member, lookup}
 use Rattle.records.specs.State.{soundState}
@@ -35,6 +36,10 @@ found-member n (r ∷ l) = go (eqb (r .id) n) (found-member n l)
     go : (b : Bool) → isFound (lookup n l) ≡ member n l → isFound (cond b (Operation (r .code)) (lookup n l)) ≡ (b || member n l)
     go true ih = refl
     go false ih = ih
+
+-- what is said of a record that was found
+pub found-is-member : {f : Found} {b : Bool} (n : ℕ) (l : List Record) → f ≡ lookup n l → b ≡ isFound f → b ≡ member n l
+found-is-member {f} {b} n l e p = p ∙ ap isFound e ∙ found-member n l
 
 -- ---- one turn of the loops over a side, o being the operation of the record at i
 

@@ -4,7 +4,8 @@ use crate::problem::check_error;
 use crate::problem::check_invoke;
 use crate::problem::check_result;
 use crate::problem::field_code;
-use crate::usable::own_code;
+use crate::usable::code_found;
+use crate::usable::own_found;
 use crate::usable::with_peer;
 use apdu::Body;
 use apdu::CodeField;
@@ -127,10 +128,11 @@ fn arrive_result(state: State, table: &[u8], x: &[u8], id: u32, body: Body) -> A
     requires { ⌜ valid (now table) ≡ true ⌝ }
     ensures { λ r. ⌜ Arrives (now (table .entry)) state (now (x .entry)) (result id (readBody (now (x .entry)) body)) r ⌝ }
 {
-    match check_result(state, table, x, id, body) {
+    let found = own_found(state, OwnId(id));
+    match check_result(found, table, x, id, body) {
         Verdict::Fails(why) => refused(state, why),
         Verdict::Passes => {
-            let operation = own_code(state, OwnId(id));
+            let operation = code_found(found);
             let next = state.retire_own(OwnId(id));
             indicated(
                 next,
@@ -155,10 +157,11 @@ fn arrive_error(
     requires { ⌜ valid (now table) ≡ true ⌝ }
     ensures { λ r. ⌜ Arrives (now (table .entry)) state (now (x .entry)) (error id field (readValue (now (x .entry)) value)) r ⌝ }
 {
-    match check_error(state, table, x, id, field, value) {
+    let found = own_found(state, OwnId(id));
+    match check_error(found, table, x, id, field, value) {
         Verdict::Fails(why) => refused(state, why),
         Verdict::Passes => {
-            let operation = own_code(state, OwnId(id));
+            let operation = code_found(found);
             let next = state.retire_own(OwnId(id));
             indicated(
                 next,

@@ -29,8 +29,9 @@ use request::check_invoke;
 use request::check_reject;
 use request::check_result;
 use request::link_number;
+use usable::code_found;
 use usable::opening;
-use usable::peer_code;
+use usable::peer_found;
 use usable::with_own;
 ghost use mathlib.Core.Path.{_≡_};
 ghost use mathlib.Core.List.{[]};
@@ -156,13 +157,14 @@ pub fn result(state: State, table: &[u8], id: PeerId, value: &[u8], out: &mut [u
         }
         Verdict::Passes => {}
     }
-    match check_result(state, table, id, value, out.len()) {
+    let found = peer_found(state, id);
+    match check_result(found, table, id, value, out.len()) {
         Verdict::Fails(why) => {
             return refused(state, why);
         }
         Verdict::Passes => {}
     }
-    let written = write_result(out, id.0, peer_code(state, id), value);
+    let written = write_result(out, id.0, code_found(found), value);
     accepted(state.retire_peer(id), written)
 }
 
@@ -183,7 +185,8 @@ pub fn error(
         }
         Verdict::Passes => {}
     }
-    match check_error(state, table, id, code, value, out.len()) {
+    let found = peer_found(state, id);
+    match check_error(found, table, id, code, value, out.len()) {
         Verdict::Fails(why) => {
             return refused(state, why);
         }
@@ -203,7 +206,8 @@ pub fn reject(state: State, table: &[u8], id: PeerId, problem: u8, out: &mut [u8
         }
         Verdict::Passes => {}
     }
-    match check_reject(state, table, id, problem, out.len()) {
+    let found = peer_found(state, id);
+    match check_reject(found, table, id, problem, out.len()) {
         Verdict::Fails(why) => {
             return refused(state, why);
         }

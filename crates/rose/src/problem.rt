@@ -1,10 +1,12 @@
 // The problems of a received Invoke, Result and Error, in document 01's order of check.
 use crate::Verdict;
+use crate::usable::code_found;
 use crate::usable::error_named;
 use crate::usable::fails;
 use crate::usable::has_own;
 use crate::usable::has_peer;
 use crate::usable::is_class;
+use crate::usable::is_found;
 use crate::usable::lacks_room;
 use crate::usable::operation_named;
 use crate::usable::own_code;
@@ -20,6 +22,7 @@ use optable::is_paired;
 use optable::value_right;
 use protocol::Refusal;
 use records::Code;
+use records::Found;
 use records::OwnId;
 use records::PeerId;
 use records::State;
@@ -29,7 +32,9 @@ ghost use mathlib.Core.List.{List};
 ghost use mathlib.Core.Option.{some};
 ghost use Prim.Native.Nat.{ℕ};
 ghost use Rattle.apdu.specs.declared.Number.the-variants.{Of};
+ghost use Rattle.records.specs.Records.{lookup};
 ghost use Rattle.protocol.specs.Call.{rejecting};
+ghost use Rattle.protocol.specs.Check.{ownRecords};
 ghost use Rattle.optable.specs.Validity.{valid};
 ghost use Rattle.optable.specs.Value.{valueRight};
 ghost use Rattle.apdu.specs.Reading.{readValue, readBody};
@@ -182,14 +187,15 @@ fn body_value(body: Body) -> Value
     }
 }
 
-pub(crate) fn check_result(state: State, table: &[u8], x: &[u8], id: u32, body: Body) -> Verdict
+// The checks of a result, given the own record of its id: the state itself is not passed on.
+pub(crate) fn check_result(found: Found, table: &[u8], x: &[u8], id: u32, body: Body) -> Verdict
     requires { ⌜ valid (now table) ≡ true ⌝ }
-    ensures { λ r. ⌜ readVerdict r ≡ first (resultChecks (now (table .entry)) state id (readBody (now (x .entry)) body)) ⌝ }
+    ensures { λ r. ⌜ ((s : State) → found ≡ lookup id (ownRecords s) → readVerdict r ≡ first (resultChecks (now (table .entry)) s id (readBody (now (x .entry)) body))) ⌝ }
 {
-    if !has_own(state, OwnId(id)) {
+    if !is_found(found) {
         return problem(id, 0x82, 0);
     }
-    let code = own_code(state, OwnId(id));
+    let code = code_found(found);
     let named = operation_named(table, code);
     if is_class(3, 5, named.class()) {
         return problem(id, 0x82, 1);
@@ -203,8 +209,9 @@ pub(crate) fn check_result(state: State, table: &[u8], x: &[u8], id: u32, body: 
     Verdict::Passes
 }
 
+// The checks of an error, likewise.
 pub(crate) fn check_error(
-    state: State,
+    found: Found,
     table: &[u8],
     x: &[u8],
     id: u32,
@@ -212,12 +219,12 @@ pub(crate) fn check_error(
     value: Value,
 ) -> Verdict
     requires { ⌜ valid (now table) ≡ true ⌝ }
-    ensures { λ r. ⌜ readVerdict r ≡ first (errorChecks (now (table .entry)) state id field (readValue (now (x .entry)) value)) ⌝ }
+    ensures { λ r. ⌜ ((s : State) → found ≡ lookup id (ownRecords s) → readVerdict r ≡ first (errorChecks (now (table .entry)) s id field (readValue (now (x .entry)) value))) ⌝ }
 {
-    if !has_own(state, OwnId(id)) {
+    if !is_found(found) {
         return problem(id, 0x83, 0);
     }
-    let code = own_code(state, OwnId(id));
+    let code = code_found(found);
     let used = operation_named(table, code);
     if is_class(4, 5, used.class()) {
         return problem(id, 0x83, 1);

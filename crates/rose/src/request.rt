@@ -1,11 +1,13 @@
 // The checks of the requests behind 19 and 1, in document 01's order.
 use crate::Verdict;
+use crate::usable::code_found;
 use crate::usable::error_named;
 use crate::usable::fails;
 use crate::usable::has_own;
 use crate::usable::has_peer;
 use crate::usable::is_busy;
 use crate::usable::is_class;
+use crate::usable::is_found;
 use crate::usable::lacks_room;
 use crate::usable::operation_named;
 use crate::usable::peer_code;
@@ -22,6 +24,7 @@ use optable::value_right;
 use protocol::PeerLink;
 use protocol::Refusal;
 use records::Code;
+use records::Found;
 use records::OwnId;
 use records::PeerId;
 use records::State;
@@ -33,7 +36,8 @@ ghost use lib.ListN.{length};
 ghost use Rattle.optable.specs.Validity.{valid};
 ghost use Rattle.ber.specs.Element.{given};
 ghost use Rattle.protocol.specs.Call.{invoke, result, error, reject, own};
-ghost use Rattle.protocol.specs.Check.{valueWell};
+ghost use Rattle.records.specs.Records.{lookup};
+ghost use Rattle.protocol.specs.Check.{valueWell, peerRecords};
 ghost use Rattle.protocol.specs.Perform.{laterChecks, isUserProblem};
 ghost use Rattle.protocol.specs.Reading.{readPeerLink};
 ghost use Rattle.rose.specs.Verdict.{first, readVerdict, linkedChecks, valueChecks, sizeChecks};
@@ -144,20 +148,21 @@ pub(crate) fn check_invoke(
     check_size(1, value, size, room)
 }
 
+// Given the peer record of the id: the state itself is not passed on.
 pub(crate) fn check_result(
-    state: State,
+    found: Found,
     table: &[u8],
     id: PeerId,
     value: &[u8],
     room: usize,
 ) -> Verdict
     requires { ⌜ valid (now table) ≡ true ⌝ }
-    ensures { λ r. ⌜ readVerdict r ≡ first (laterChecks (now (table .entry)) state (result (id .0) (now (value .entry)) room)) ⌝ }
+    ensures { λ r. ⌜ ((s : State) → found ≡ lookup (id .0) (peerRecords s) → readVerdict r ≡ first (laterChecks (now (table .entry)) s (result (id .0) (now (value .entry)) room))) ⌝ }
 {
-    if !has_peer(state, id) {
+    if !is_found(found) {
         return Verdict::Fails(Refusal::NoRecord);
     }
-    let code = peer_code(state, id);
+    let code = code_found(found);
     let named = operation_named(table, code);
     if is_class(3, 5, named.class()) {
         return Verdict::Fails(Refusal::WrongClass);
@@ -170,7 +175,7 @@ pub(crate) fn check_result(
 }
 
 pub(crate) fn check_error(
-    state: State,
+    found: Found,
     table: &[u8],
     id: PeerId,
     code: Code,
@@ -178,12 +183,12 @@ pub(crate) fn check_error(
     room: usize,
 ) -> Verdict
     requires { ⌜ valid (now table) ≡ true ⌝ }
-    ensures { λ r. ⌜ readVerdict r ≡ first (laterChecks (now (table .entry)) state (error (id .0) code (now (value .entry)) room)) ⌝ }
+    ensures { λ r. ⌜ ((s : State) → found ≡ lookup (id .0) (peerRecords s) → readVerdict r ≡ first (laterChecks (now (table .entry)) s (error (id .0) code (now (value .entry)) room))) ⌝ }
 {
-    if !has_peer(state, id) {
+    if !is_found(found) {
         return Verdict::Fails(Refusal::NoRecord);
     }
-    let operated = peer_code(state, id);
+    let operated = code_found(found);
     let used = operation_named(table, operated);
     if is_class(4, 5, used.class()) {
         return Verdict::Fails(Refusal::WrongClass);
@@ -215,18 +220,18 @@ fn is_user_problem(problem: u8) -> bool
 }
 
 pub(crate) fn check_reject(
-    state: State,
+    found: Found,
     table: &[u8],
     id: PeerId,
     problem: u8,
     room: usize,
 ) -> Verdict
-    ensures { λ r. ⌜ readVerdict r ≡ first (laterChecks (now (table .entry)) state (reject (id .0) problem room)) ⌝ }
+    ensures { λ r. ⌜ ((s : State) → found ≡ lookup (id .0) (peerRecords s) → readVerdict r ≡ first (laterChecks (now (table .entry)) s (reject (id .0) problem room))) ⌝ }
 {
     if !is_user_problem(problem) {
         return Verdict::Fails(Refusal::WrongProblem);
     }
-    if !has_peer(state, id) {
+    if !is_found(found) {
         return Verdict::Fails(Refusal::NoRecord);
     }
     if room < reject_size(Number::Of(id.0)) {

@@ -13,7 +13,7 @@ use records::PeerId;
 use records::Records;
 use records::State;
 ghost use mathlib.Core.Path.{_≡_};
-ghost use Rattle.records.specs.Records.{view, member};
+ghost use Rattle.records.specs.Records.{view, lookup, member};
 ghost use Rattle.optable.specs.Validity.{valid};
 ghost use Rattle.optable.specs.Lookup.{operationOf, errorOf};
 ghost use mathlib.Core.Bool.{true, not, _&&_};
@@ -89,7 +89,7 @@ pub(crate) fn opening(state: State, table: &[u8]) -> Verdict
 }
 
 // Whether a record was found.
-fn is_found(found: Found) -> bool
+pub(crate) fn is_found(found: Found) -> bool
     ensures { λ r. ⌜ r ≡ isFound found ⌝ }
 {
     match found {
@@ -99,13 +99,29 @@ fn is_found(found: Found) -> bool
 }
 
 // The code of a record that was found, else 0.
-fn code_found(found: Found) -> Code
+pub(crate) fn code_found(found: Found) -> Code
     ensures { λ r. ⌜ r ≡ codeFound found ⌝ }
 {
     match found {
         Found::Operation(code) => code,
         Found::Nothing => Code(0),
     }
+}
+
+// The own record of an id.
+pub(crate) fn own_found(state: State, id: OwnId) -> Found
+    ensures { λ r. ⌜ r ≡ lookup (id .0) (ownRecords state) ⌝ }
+{
+    let looked = state.find_own(id);
+    looked.found
+}
+
+// The peer record of an id.
+pub(crate) fn peer_found(state: State, id: PeerId) -> Found
+    ensures { λ r. ⌜ r ≡ lookup (id .0) (peerRecords state) ⌝ }
+{
+    let looked = state.find_peer(id);
+    looked.found
 }
 
 pub(crate) fn has_own(state: State, id: OwnId) -> bool

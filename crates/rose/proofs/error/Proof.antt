@@ -1,5 +1,7 @@
 -- 19 and 1, the checks of its own, or the APDU and the new state.
+use mathlib.Core.Path.{_≡_}
 use lib.ListN.{length}
+use Rattle.rose.specs.declared.Verdict.the-variants.{Passes}
 use Rattle.protocol.specs.Call.{error}
 use Rattle.protocol.specs.Perform.{laterChecks}
 use Rattle.rose.proofs.Verdicts.{verdict-fails, verdict-passes}
@@ -32,9 +34,12 @@ returns c =
 enum-told : tie.Need-enum-told
 enum-told c = search needs
 
+peer-found-requires : tie.Need-peer-found-requires
+peer-found-requires c κs = search needs
+
 check-error-requires : tie.Need-check-error-requires
 check-error-requires c κs =
-    let opening = c .before .before in
+    let opening = c .before .before .before in
     let start = opening .before .before .before .before in
     opened-valid (start .args .table .now) (start .args .state)
     (verdict-passes (opening .opening .result) (shared (start .args .table .now) (start .args .state)) (opening .opening .ensures) (cc))
@@ -49,12 +54,13 @@ returns-2 : tie.Need-returns-2
 returns-2 c =
     let why2 = c .before .before in
     let check-error = why2 .before .before in
-    let opening = check-error .before .before .before in
+    let peer-found = check-error .before in
+    let opening = peer-found .before .before .before in
     let start = opening .before .before .before .before in
     later-refused (start .args .table .now) (start .args .state)
     (error (start .args .id .0) (start .args .code) (start .args .value .now) (length (start .args .out .now))) (opening .opening .result)
     (opening .opening .ensures) (cc) (why2 .why2 .given .0 .0)
-    (verdict-fails (check-error .check-error .result) (laterChecks (start .args .table .now) (start .args .state) (error (start .args .id .0) (start .args .code) (start .args .value .now) (length (start .args .out .now)))) (why2 .why2 .given .0 .0) (check-error .check-error .ensures) (cc))
+    (verdict-fails (check-error .check-error .result) (laterChecks (start .args .table .now) (start .args .state) (error (start .args .id .0) (start .args .code) (start .args .value .now) (length (start .args .out .now)))) (why2 .why2 .given .0 .0) (check-error .check-error .ensures (start .args .state) (peer-found .peer-found .ensures)) (cc))
     (error-plain (start .args .table .now) (start .args .state) (start .args .id .0) (start .args .value .now) (length (start .args .out .now)) (start .args .code))
     (start .args .out .now) _ (c .refused2 .ensures)
 
@@ -73,16 +79,25 @@ accepted-requires c κs = search needs
 same-length : tie.Need-same-length
 same-length c = search needs
 
+opened : (a : tie.After-enum-told) → a .before .before .opening .result ≡ Passes
+opened a = cc
+
+checked : (a : tie.After-enum-told2) → a .before .before .check-error .result ≡ Passes
+checked a = cc
+
 returns-3 : tie.Need-returns-3
 returns-3 c =
     let retire-peer = c .before in
     let write-error = retire-peer .before .before .before in
-    let check-error = write-error .before .before .before .before in
-    let opening = check-error .before .before .before in
+    let told2 = write-error .before .before in
+    let check-error = told2 .before .before in
+    let peer-found = check-error .before in
+    let told = peer-found .before in
+    let opening = told .before .before in
     let start = opening .before .before .before .before in
-    error-accepted (start .args .table .now) (start .args .state) (opening .opening .result) (opening .opening .ensures) (cc) (start .args .out .now)
+    error-accepted (start .args .table .now) (start .args .state) (opening .opening .result) (opening .opening .ensures) (opened told) (start .args .out .now)
     _ _ (retire-peer .retire-peer .result) _ (c .accepted .ensures) (start .args .id .0) (start .args .value .now) (start .args .code)
-    (verdict-passes (check-error .check-error .result) (laterChecks (start .args .table .now) (start .args .state) (error (start .args .id .0) (start .args .code) (start .args .value .now) (length (start .args .out .now)))) (check-error .check-error .ensures) (cc))
+    (verdict-passes (check-error .check-error .result) (laterChecks (start .args .table .now) (start .args .state) (error (start .args .id .0) (start .args .code) (start .args .value .now) (length (start .args .out .now)))) (check-error .check-error .ensures (start .args .state) (peer-found .peer-found .ensures)) (checked told2))
     (retire-peer .retire-peer .ensures) (write-error .write-error .ensures)
 
 pub error-spec : {M : Type 1} → statement M
@@ -94,6 +109,7 @@ error-spec =
     refused-requires
     returns
     enum-told
+    peer-found-requires
     check-error-requires
     enum-known-why-2
     refused-requires-2

@@ -1,5 +1,5 @@
 -- 19 and 1, the checks of its own, or the APDU and the new state.
-use mathlib.Core.Path.{_≡_}
+use mathlib.Core.Path.{_≡_, ap, _∙_}
 use lib.ListN.{length}
 use Rattle.rose.specs.declared.Verdict.the-variants.{Passes}
 use Rattle.protocol.specs.Call.{result}
@@ -7,7 +7,7 @@ use Rattle.protocol.specs.Perform.{laterChecks}
 use Rattle.rose.proofs.Verdicts.{verdict-fails, verdict-passes}
 use Rattle.rose.proofs.Calls.{opening-refused, later-refused, result-plain}
 use Rattle.rose.proofs.Requests.{result-accepted}
-use Rattle.protocol.specs.Check.{shared}
+use Rattle.protocol.specs.Check.{shared, codeFound}
 use Rattle.rose.proofs.UsableAnswers.{opened-valid}
 use borrow.Author.Needs.{needs}
 use Rattle.rose.proofs.result.Statement.{statement}
@@ -34,9 +34,12 @@ returns c =
 enum-told : tie.Need-enum-told
 enum-told c = search needs
 
+peer-found-requires : tie.Need-peer-found-requires
+peer-found-requires c κs = search needs
+
 check-result-requires : tie.Need-check-result-requires
 check-result-requires c κs =
-    let opening = c .before .before in
+    let opening = c .before .before .before in
     let start = opening .before .before .before .before in
     opened-valid (start .args .table .now) (start .args .state)
     (verdict-passes (opening .opening .result) (shared (start .args .table .now) (start .args .state)) (opening .opening .ensures) (cc))
@@ -51,20 +54,21 @@ returns-2 : tie.Need-returns-2
 returns-2 c =
     let why2 = c .before .before in
     let check-result = why2 .before .before in
-    let opening = check-result .before .before .before in
+    let peer-found = check-result .before in
+    let opening = peer-found .before .before .before in
     let start = opening .before .before .before .before in
     later-refused (start .args .table .now) (start .args .state)
     (result (start .args .id .0) (start .args .value .now) (length (start .args .out .now))) (opening .opening .result) (opening .opening .ensures)
     (cc) (why2 .why2 .given .0 .0)
-    (verdict-fails (check-result .check-result .result) (laterChecks (start .args .table .now) (start .args .state) (result (start .args .id .0) (start .args .value .now) (length (start .args .out .now)))) (why2 .why2 .given .0 .0) (check-result .check-result .ensures) (cc))
+    (verdict-fails (check-result .check-result .result) (laterChecks (start .args .table .now) (start .args .state) (result (start .args .id .0) (start .args .value .now) (length (start .args .out .now)))) (why2 .why2 .given .0 .0) (check-result .check-result .ensures (start .args .state) (peer-found .peer-found .ensures)) (cc))
     (result-plain (start .args .table .now) (start .args .state) (start .args .id .0) (start .args .value .now) (length (start .args .out .now)))
     (start .args .out .now) _ (c .refused2 .ensures)
 
 enum-told-2 : tie.Need-enum-told-2
 enum-told-2 c = search needs
 
-peer-code-requires : tie.Need-peer-code-requires
-peer-code-requires c κs = search needs
+code-found-requires : tie.Need-code-found-requires
+code-found-requires c κs = search needs
 
 write-result-requires : tie.Need-write-result-requires
 write-result-requires c κs = search needs
@@ -88,16 +92,17 @@ returns-3 : tie.Need-returns-3
 returns-3 c =
     let retire-peer = c .before in
     let write-result = retire-peer .before .before .before in
-    let peer-code = write-result .before in
-    let told2 = peer-code .before .before in
+    let code-found = write-result .before in
+    let told2 = code-found .before .before in
     let check-result = told2 .before .before in
-    let told = check-result .before in
+    let peer-found = check-result .before in
+    let told = peer-found .before in
     let opening = told .before .before in
     let start = opening .before .before .before .before in
     result-accepted (start .args .table .now) (start .args .state) (opening .opening .result) (opening .opening .ensures) (opened told) (start .args .out .now)
     _ _ (retire-peer .retire-peer .result) _ (c .accepted .ensures) (start .args .id .0) (start .args .value .now)
-    (verdict-passes (check-result .check-result .result) (laterChecks (start .args .table .now) (start .args .state) (result (start .args .id .0) (start .args .value .now) (length (start .args .out .now)))) (check-result .check-result .ensures) (checked told2))
-    (peer-code .peer-code .result) (peer-code .peer-code .ensures) (retire-peer .retire-peer .ensures) (write-result .write-result .ensures)
+    (verdict-passes (check-result .check-result .result) (laterChecks (start .args .table .now) (start .args .state) (result (start .args .id .0) (start .args .value .now) (length (start .args .out .now)))) (check-result .check-result .ensures (start .args .state) (peer-found .peer-found .ensures)) (checked told2))
+    (code-found .code-found .result) (code-found .code-found .ensures ∙ ap codeFound (peer-found .peer-found .ensures)) (retire-peer .retire-peer .ensures) (write-result .write-result .ensures)
 
 pub result-spec : {M : Type 1} → statement M
 result-spec =
@@ -108,12 +113,13 @@ result-spec =
     refused-requires
     returns
     enum-told
+    peer-found-requires
     check-result-requires
     enum-known-why-2
     refused-requires-2
     returns-2
     enum-told-2
-    peer-code-requires
+    code-found-requires
     write-result-requires
     retire-peer-requires
     accepted-requires

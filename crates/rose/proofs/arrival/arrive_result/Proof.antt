@@ -1,8 +1,13 @@
 -- A problem, or an indication.
 use Rattle.rose.proofs.ByKind.{result-refused, result-indicated}
+use mathlib.Core.Path.{ap, _∙_}
+use Rattle.protocol.specs.Check.{codeFound}
 use borrow.Author.Needs.{needs}
 use Rattle.rose.proofs.arrival.arrive_result.Statement.{statement}
 use Rattle.rose.proofs.arrival.arrive_result.Tie as tie
+
+own-found-requires : tie.Need-own-found-requires
+own-found-requires c κs = search needs
 
 check-result-requires : tie.Need-check-result-requires
 check-result-requires c κs = search needs
@@ -16,8 +21,8 @@ refused-requires c κs = search needs
 enum-told : tie.Need-enum-told
 enum-told c = search needs
 
-own-code-requires : tie.Need-own-code-requires
-own-code-requires c κs = search needs
+code-found-requires : tie.Need-code-found-requires
+code-found-requires c κs = search needs
 
 retire-own-requires : tie.Need-retire-own-requires
 retire-own-requires c κs = search needs
@@ -29,19 +34,21 @@ returns : tie.Need-returns
 returns c =
     let why = c .before .before in
     let check-result = why .before .before in
-    let start = check-result .before .before .before in
+    let own-found = check-result .before in
+    let start = own-found .before .before .before in
     result-refused (start .args .table .now) (start .args .state) (start .args .x .now) (start .args .id) (start .args .body)
-    (check-result .check-result .result) (check-result .check-result .ensures) _ (why .why .given .0 .0) (cc) (c .refused .ensures)
+    (check-result .check-result .result) (check-result .check-result .ensures (start .args .state) (own-found .own-found .ensures)) _ (why .why .given .0 .0) (cc) (c .refused .ensures)
 
 returns-2 : tie.Need-returns-2
 returns-2 c =
     let retire-own = c .before in
-    let own-code = retire-own .before in
-    let check-result = own-code .before .before .before in
-    let start = check-result .before .before .before in
+    let code-found = retire-own .before in
+    let check-result = code-found .before .before .before in
+    let own-found = check-result .before in
+    let start = own-found .before .before .before in
     result-indicated (start .args .table .now) (start .args .state) (start .args .x .now) (start .args .id) (start .args .body)
-    (check-result .check-result .result) (check-result .check-result .ensures) _ (cc) (own-code .own-code .result) (own-code .own-code .ensures)
+    (check-result .check-result .result) (check-result .check-result .ensures (start .args .state) (own-found .own-found .ensures)) _ (cc) (code-found .code-found .result) (code-found .code-found .ensures ∙ ap codeFound (own-found .own-found .ensures))
     (retire-own .retire-own .result) (retire-own .retire-own .ensures) (c .indicated .ensures)
 
 pub arrive-result-spec : {M : Type 1} → statement M
-arrive-result-spec = tie.close (tie.spec check-result-requires enum-known-why refused-requires enum-told own-code-requires retire-own-requires indicated-requires returns returns-2)
+arrive-result-spec = tie.close (tie.spec own-found-requires check-result-requires enum-known-why refused-requires enum-told code-found-requires retire-own-requires indicated-requires returns returns-2)

@@ -1,29 +1,30 @@
 -- 0, 1, 2 by the code's form, 2 by the table, 3, 4, or none.
 use mathlib.Core.Path.{sym, ap, _∙_}
 use Rattle.apdu.specs.Reading.{readValue}
-use Rattle.protocol.specs.Check.{isClass}
+use Rattle.protocol.specs.Check.{isClass, codeFound, ownRecords}
+use Rattle.rose.proofs.UsableAnswers.{found-is-member}
 use Rattle.rose.proofs.ArrivalAnswers.{error-unasked, error-unexpected, other-error, unknown-error, unpaired-error, wrong-parameter, right-parameter}
 use Rattle.base.proofs.Tests.{said-no, said-yes}
 use borrow.Author.Needs.{needs}
 use Rattle.rose.proofs.problem.check_error.Statement.{statement}
 use Rattle.rose.proofs.problem.check_error.Tie as tie
 
-has-own-requires : tie.Need-has-own-requires
-has-own-requires c κs = search needs
+is-found-requires : tie.Need-is-found-requires
+is-found-requires c κs = search needs
 
 problem-requires : tie.Need-problem-requires
 problem-requires c κs = search needs
 
 returns : tie.Need-returns
-returns c =
+returns c = λ s e.
     let if1 = c .before in
-    let has-own = if1 .before in
-    let start = has-own .before .before .before in
-    error-unasked (start .args .table .now) (start .args .state) (start .args .id) (start .args .field)
-    (readValue (start .args .x .now) (start .args .value)) _ (said-no (has-own .has-own .ensures) (if1 .if1 .taken)) (c .problem .ensures)
+    let is-found = if1 .before in
+    let start = is-found .before .before .before in
+    error-unasked (start .args .table .now) s (start .args .id) (start .args .field)
+    (readValue (start .args .x .now) (start .args .value)) _ (said-no (found-is-member (start .args .id) (ownRecords s) e (is-found .is-found .ensures)) (if1 .if1 .taken)) (c .problem .ensures)
 
-own-code-requires : tie.Need-own-code-requires
-own-code-requires c κs = search needs
+code-found-requires : tie.Need-code-found-requires
+code-found-requires c κs = search needs
 
 operation-named-requires : tie.Need-operation-named-requires
 operation-named-requires c κs = search needs
@@ -38,18 +39,18 @@ problem-requires-2 : tie.Need-problem-requires-2
 problem-requires-2 c κs = search needs
 
 returns-2 : tie.Need-returns-2
-returns-2 c =
+returns-2 c = λ s e.
     let if2 = c .before in
     let is-class = if2 .before in
     let class = is-class .before in
     let operation-named = class .before in
-    let own-code = operation-named .before in
-    let if1 = own-code .before in
-    let has-own = if1 .before in
-    let start = has-own .before .before .before in
-    error-unexpected (start .args .table .now) (start .args .state) (start .args .id) (start .args .field)
-    (readValue (start .args .x .now) (start .args .value)) (said-yes (has-own .has-own .ensures) (if1 .if1 .left)) (own-code .own-code .result)
-    (own-code .own-code .ensures) (operation-named .operation-named .result) (operation-named .operation-named .ensures) _
+    let code-found = operation-named .before in
+    let if1 = code-found .before in
+    let is-found = if1 .before in
+    let start = is-found .before .before .before in
+    error-unexpected (start .args .table .now) s (start .args .id) (start .args .field)
+    (readValue (start .args .x .now) (start .args .value)) (said-yes (found-is-member (start .args .id) (ownRecords s) e (is-found .is-found .ensures)) (if1 .if1 .left)) (code-found .code-found .result)
+    (code-found .code-found .ensures ∙ ap codeFound e) (operation-named .operation-named .result) (operation-named .operation-named .ensures) _
     (ap (isClass 4 5) (sym (class .class .ensures)) ∙ (sym (is-class .is-class .ensures) ∙ if2 .if2 .taken)) (c .problem2 .ensures)
 
 field-code-requires : tie.Need-field-code-requires
@@ -65,7 +66,7 @@ problem-requires-3 : tie.Need-problem-requires-3
 problem-requires-3 c κs = search needs
 
 returns-3 : tie.Need-returns-3
-returns-3 c =
+returns-3 c = λ s e.
     let if3 = c .before in
     let is-local = if3 .before in
     let error-named = is-local .before in
@@ -74,13 +75,13 @@ returns-3 c =
     let is-class = if2 .before in
     let class = is-class .before in
     let operation-named = class .before in
-    let own-code = operation-named .before in
-    let if1 = own-code .before in
-    let has-own = if1 .before in
-    let start = has-own .before .before .before in
-    other-error (start .args .table .now) (start .args .state) (start .args .id) (start .args .field)
-    (readValue (start .args .x .now) (start .args .value)) (said-yes (has-own .has-own .ensures) (if1 .if1 .left)) (own-code .own-code .result)
-    (own-code .own-code .ensures) (operation-named .operation-named .result) (operation-named .operation-named .ensures)
+    let code-found = operation-named .before in
+    let if1 = code-found .before in
+    let is-found = if1 .before in
+    let start = is-found .before .before .before in
+    other-error (start .args .table .now) s (start .args .id) (start .args .field)
+    (readValue (start .args .x .now) (start .args .value)) (said-yes (found-is-member (start .args .id) (ownRecords s) e (is-found .is-found .ensures)) (if1 .if1 .left)) (code-found .code-found .result)
+    (code-found .code-found .ensures ∙ ap codeFound e) (operation-named .operation-named .result) (operation-named .operation-named .ensures)
     (ap (isClass 4 5) (sym (class .class .ensures)) ∙ (sym (is-class .is-class .ensures) ∙ if2 .if2 .left)) (field-code .field-code .result)
     (field-code .field-code .ensures) (error-named .error-named .result) (error-named .error-named .ensures) _
     (said-no (is-local .is-local .ensures) (if3 .if3 .taken)) (c .problem3 .ensures)
@@ -92,7 +93,7 @@ problem-requires-4 : tie.Need-problem-requires-4
 problem-requires-4 c κs = search needs
 
 returns-4 : tie.Need-returns-4
-returns-4 c =
+returns-4 c = λ s e.
     let if4 = c .before in
     let is-known = if4 .before in
     let if3 = is-known .before in
@@ -103,13 +104,13 @@ returns-4 c =
     let is-class = if2 .before in
     let class = is-class .before in
     let operation-named = class .before in
-    let own-code = operation-named .before in
-    let if1 = own-code .before in
-    let has-own = if1 .before in
-    let start = has-own .before .before .before in
-    unknown-error (start .args .table .now) (start .args .state) (start .args .id) (start .args .field)
-    (readValue (start .args .x .now) (start .args .value)) (said-yes (has-own .has-own .ensures) (if1 .if1 .left)) (own-code .own-code .result)
-    (own-code .own-code .ensures) (operation-named .operation-named .result) (operation-named .operation-named .ensures)
+    let code-found = operation-named .before in
+    let if1 = code-found .before in
+    let is-found = if1 .before in
+    let start = is-found .before .before .before in
+    unknown-error (start .args .table .now) s (start .args .id) (start .args .field)
+    (readValue (start .args .x .now) (start .args .value)) (said-yes (found-is-member (start .args .id) (ownRecords s) e (is-found .is-found .ensures)) (if1 .if1 .left)) (code-found .code-found .result)
+    (code-found .code-found .ensures ∙ ap codeFound e) (operation-named .operation-named .result) (operation-named .operation-named .ensures)
     (ap (isClass 4 5) (sym (class .class .ensures)) ∙ (sym (is-class .is-class .ensures) ∙ if2 .if2 .left)) (field-code .field-code .result)
     (field-code .field-code .ensures) (error-named .error-named .result) (error-named .error-named .ensures)
     (said-yes (is-local .is-local .ensures) (if3 .if3 .left)) _ (said-no (is-known .is-known .ensures) (if4 .if4 .taken)) (c .problem4 .ensures)
@@ -121,7 +122,7 @@ problem-requires-5 : tie.Need-problem-requires-5
 problem-requires-5 c κs = search needs
 
 returns-5 : tie.Need-returns-5
-returns-5 c =
+returns-5 c = λ s e.
     let if5 = c .before in
     let is-paired = if5 .before in
     let if4 = is-paired .before in
@@ -134,13 +135,13 @@ returns-5 c =
     let is-class = if2 .before in
     let class = is-class .before in
     let operation-named = class .before in
-    let own-code = operation-named .before in
-    let if1 = own-code .before in
-    let has-own = if1 .before in
-    let start = has-own .before .before .before in
-    unpaired-error (start .args .table .now) (start .args .state) (start .args .id) (start .args .field)
-    (readValue (start .args .x .now) (start .args .value)) (said-yes (has-own .has-own .ensures) (if1 .if1 .left)) (own-code .own-code .result)
-    (own-code .own-code .ensures) (operation-named .operation-named .result) (operation-named .operation-named .ensures)
+    let code-found = operation-named .before in
+    let if1 = code-found .before in
+    let is-found = if1 .before in
+    let start = is-found .before .before .before in
+    unpaired-error (start .args .table .now) s (start .args .id) (start .args .field)
+    (readValue (start .args .x .now) (start .args .value)) (said-yes (found-is-member (start .args .id) (ownRecords s) e (is-found .is-found .ensures)) (if1 .if1 .left)) (code-found .code-found .result)
+    (code-found .code-found .ensures ∙ ap codeFound e) (operation-named .operation-named .result) (operation-named .operation-named .ensures)
     (ap (isClass 4 5) (sym (class .class .ensures)) ∙ (sym (is-class .is-class .ensures) ∙ if2 .if2 .left)) (field-code .field-code .result)
     (field-code .field-code .ensures) (error-named .error-named .result) (error-named .error-named .ensures)
     (said-yes (is-local .is-local .ensures) (if3 .if3 .left)) (said-yes (is-known .is-known .ensures) (if4 .if4 .left)) _
@@ -156,7 +157,7 @@ problem-requires-6 : tie.Need-problem-requires-6
 problem-requires-6 c κs = search needs
 
 returns-6 : tie.Need-returns-6
-returns-6 c =
+returns-6 c = λ s e.
     let if6 = c .before in
     let is-right = if6 .before in
     let parameter = is-right .before in
@@ -172,13 +173,13 @@ returns-6 c =
     let is-class = if2 .before in
     let class = is-class .before in
     let operation-named = class .before in
-    let own-code = operation-named .before in
-    let if1 = own-code .before in
-    let has-own = if1 .before in
-    let start = has-own .before .before .before in
-    wrong-parameter (start .args .table .now) (start .args .state) (start .args .id) (start .args .field)
-    (readValue (start .args .x .now) (start .args .value)) (said-yes (has-own .has-own .ensures) (if1 .if1 .left)) (own-code .own-code .result)
-    (own-code .own-code .ensures) (operation-named .operation-named .result) (operation-named .operation-named .ensures)
+    let code-found = operation-named .before in
+    let if1 = code-found .before in
+    let is-found = if1 .before in
+    let start = is-found .before .before .before in
+    wrong-parameter (start .args .table .now) s (start .args .id) (start .args .field)
+    (readValue (start .args .x .now) (start .args .value)) (said-yes (found-is-member (start .args .id) (ownRecords s) e (is-found .is-found .ensures)) (if1 .if1 .left)) (code-found .code-found .result)
+    (code-found .code-found .ensures ∙ ap codeFound e) (operation-named .operation-named .result) (operation-named .operation-named .ensures)
     (ap (isClass 4 5) (sym (class .class .ensures)) ∙ (sym (is-class .is-class .ensures) ∙ if2 .if2 .left)) (field-code .field-code .result)
     (field-code .field-code .ensures) (error-named .error-named .result) (error-named .error-named .ensures)
     (said-yes (is-local .is-local .ensures) (if3 .if3 .left)) (said-yes (is-known .is-known .ensures) (if4 .if4 .left))
@@ -186,7 +187,7 @@ returns-6 c =
     _ (said-no (is-right .is-right .ensures) (if6 .if6 .taken)) (c .problem6 .ensures)
 
 returns-7 : tie.Need-returns-7
-returns-7 c =
+returns-7 c = λ s e.
     let is-right = c .before in
     let parameter = is-right .before in
     let if5 = parameter .before in
@@ -201,13 +202,13 @@ returns-7 c =
     let is-class = if2 .before in
     let class = is-class .before in
     let operation-named = class .before in
-    let own-code = operation-named .before in
-    let if1 = own-code .before in
-    let has-own = if1 .before in
-    let start = has-own .before .before .before in
-    right-parameter (start .args .table .now) (start .args .state) (start .args .id) (start .args .field)
-    (readValue (start .args .x .now) (start .args .value)) (said-yes (has-own .has-own .ensures) (if1 .if1 .left)) (own-code .own-code .result)
-    (own-code .own-code .ensures) (operation-named .operation-named .result) (operation-named .operation-named .ensures)
+    let code-found = operation-named .before in
+    let if1 = code-found .before in
+    let is-found = if1 .before in
+    let start = is-found .before .before .before in
+    right-parameter (start .args .table .now) s (start .args .id) (start .args .field)
+    (readValue (start .args .x .now) (start .args .value)) (said-yes (found-is-member (start .args .id) (ownRecords s) e (is-found .is-found .ensures)) (if1 .if1 .left)) (code-found .code-found .result)
+    (code-found .code-found .ensures ∙ ap codeFound e) (operation-named .operation-named .result) (operation-named .operation-named .ensures)
     (ap (isClass 4 5) (sym (class .class .ensures)) ∙ (sym (is-class .is-class .ensures) ∙ if2 .if2 .left)) (field-code .field-code .result)
     (field-code .field-code .ensures) (error-named .error-named .result) (error-named .error-named .ensures)
     (said-yes (is-local .is-local .ensures) (if3 .if3 .left)) (said-yes (is-known .is-known .ensures) (if4 .if4 .left))
@@ -218,10 +219,10 @@ pub check-error-spec : {M : Type 1} → statement M
 check-error-spec =
     tie.close
     (tie.spec
-    has-own-requires
+    is-found-requires
     problem-requires
     returns
-    own-code-requires
+    code-found-requires
     operation-named-requires
     class-requires
     is-class-requires

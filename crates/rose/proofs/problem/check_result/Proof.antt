@@ -2,7 +2,8 @@
 use mathlib.Core.Path.{sym, ap, _∙_}
 use Rattle.optable.specs.Value.{valueRight}
 use Rattle.apdu.specs.Reading.{readBody}
-use Rattle.protocol.specs.Check.{isClass}
+use Rattle.protocol.specs.Check.{isClass, codeFound, ownRecords}
+use Rattle.rose.proofs.UsableAnswers.{found-is-member}
 use Rattle.rose.proofs.Verdicts.{moved}
 use Rattle.rose.proofs.ArrivalAnswers.{result-unasked, result-unexpected, result-other, result-wrong, result-right}
 use Rattle.base.proofs.Tests.{said-no, said-yes}
@@ -10,22 +11,22 @@ use borrow.Author.Needs.{needs}
 use Rattle.rose.proofs.problem.check_result.Statement.{statement}
 use Rattle.rose.proofs.problem.check_result.Tie as tie
 
-has-own-requires : tie.Need-has-own-requires
-has-own-requires c κs = search needs
+is-found-requires : tie.Need-is-found-requires
+is-found-requires c κs = search needs
 
 problem-requires : tie.Need-problem-requires
 problem-requires c κs = search needs
 
 returns : tie.Need-returns
-returns c =
+returns c = λ s e.
     let if1 = c .before in
-    let has-own = if1 .before in
-    let start = has-own .before .before .before in
-    result-unasked (start .args .table .now) (start .args .state) (start .args .id) (readBody (start .args .x .now) (start .args .body)) _
-    (said-no (has-own .has-own .ensures) (if1 .if1 .taken)) (c .problem .ensures)
+    let is-found = if1 .before in
+    let start = is-found .before .before .before in
+    result-unasked (start .args .table .now) s (start .args .id) (readBody (start .args .x .now) (start .args .body)) _
+    (said-no (found-is-member (start .args .id) (ownRecords s) e (is-found .is-found .ensures)) (if1 .if1 .taken)) (c .problem .ensures)
 
-own-code-requires : tie.Need-own-code-requires
-own-code-requires c κs = search needs
+code-found-requires : tie.Need-code-found-requires
+code-found-requires c κs = search needs
 
 operation-named-requires : tie.Need-operation-named-requires
 operation-named-requires c κs = search needs
@@ -40,17 +41,17 @@ problem-requires-2 : tie.Need-problem-requires-2
 problem-requires-2 c κs = search needs
 
 returns-2 : tie.Need-returns-2
-returns-2 c =
+returns-2 c = λ s e.
     let if2 = c .before in
     let is-class = if2 .before in
     let class = is-class .before in
     let operation-named = class .before in
-    let own-code = operation-named .before in
-    let if1 = own-code .before in
-    let has-own = if1 .before in
-    let start = has-own .before .before .before in
-    result-unexpected (start .args .table .now) (start .args .state) (start .args .id) (readBody (start .args .x .now) (start .args .body))
-    (said-yes (has-own .has-own .ensures) (if1 .if1 .left)) (own-code .own-code .result) (own-code .own-code .ensures)
+    let code-found = operation-named .before in
+    let if1 = code-found .before in
+    let is-found = if1 .before in
+    let start = is-found .before .before .before in
+    result-unexpected (start .args .table .now) s (start .args .id) (readBody (start .args .x .now) (start .args .body))
+    (said-yes (found-is-member (start .args .id) (ownRecords s) e (is-found .is-found .ensures)) (if1 .if1 .left)) (code-found .code-found .result) (code-found .code-found .ensures ∙ ap codeFound e)
     (operation-named .operation-named .result) (operation-named .operation-named .ensures) _
     (ap (isClass 3 5) (sym (class .class .ensures)) ∙ (sym (is-class .is-class .ensures) ∙ if2 .if2 .taken)) (c .problem2 .ensures)
 
@@ -61,19 +62,19 @@ problem-requires-3 : tie.Need-problem-requires-3
 problem-requires-3 c κs = search needs
 
 returns-3 : tie.Need-returns-3
-returns-3 c =
+returns-3 c = λ s e.
     let if3 = c .before in
     let is-other = if3 .before in
     let if2 = is-other .before in
     let is-class = if2 .before in
     let class = is-class .before in
     let operation-named = class .before in
-    let own-code = operation-named .before in
-    let if1 = own-code .before in
-    let has-own = if1 .before in
-    let start = has-own .before .before .before in
-    result-other (start .args .table .now) (start .args .state) (start .args .id) (readBody (start .args .x .now) (start .args .body))
-    (said-yes (has-own .has-own .ensures) (if1 .if1 .left)) (own-code .own-code .result) (own-code .own-code .ensures)
+    let code-found = operation-named .before in
+    let if1 = code-found .before in
+    let is-found = if1 .before in
+    let start = is-found .before .before .before in
+    result-other (start .args .table .now) s (start .args .id) (readBody (start .args .x .now) (start .args .body))
+    (said-yes (found-is-member (start .args .id) (ownRecords s) e (is-found .is-found .ensures)) (if1 .if1 .left)) (code-found .code-found .result) (code-found .code-found .ensures ∙ ap codeFound e)
     (operation-named .operation-named .result) (operation-named .operation-named .ensures)
     (ap (isClass 3 5) (sym (class .class .ensures)) ∙ (sym (is-class .is-class .ensures) ∙ if2 .if2 .left)) _
     (sym (is-other .is-other .ensures (start .args .x .now)) ∙ if3 .if3 .taken) (c .problem3 .ensures)
@@ -91,7 +92,7 @@ problem-requires-4 : tie.Need-problem-requires-4
 problem-requires-4 c κs = search needs
 
 returns-4 : tie.Need-returns-4
-returns-4 c =
+returns-4 c = λ s e.
     let if4 = c .before in
     let is-right = if4 .before in
     let body-value = is-right .before in
@@ -102,12 +103,12 @@ returns-4 c =
     let is-class = if2 .before in
     let class = is-class .before in
     let operation-named = class .before in
-    let own-code = operation-named .before in
-    let if1 = own-code .before in
-    let has-own = if1 .before in
-    let start = has-own .before .before .before in
-    result-wrong (start .args .table .now) (start .args .state) (start .args .id) (readBody (start .args .x .now) (start .args .body))
-    (said-yes (has-own .has-own .ensures) (if1 .if1 .left)) (own-code .own-code .result) (own-code .own-code .ensures)
+    let code-found = operation-named .before in
+    let if1 = code-found .before in
+    let is-found = if1 .before in
+    let start = is-found .before .before .before in
+    result-wrong (start .args .table .now) s (start .args .id) (readBody (start .args .x .now) (start .args .body))
+    (said-yes (found-is-member (start .args .id) (ownRecords s) e (is-found .is-found .ensures)) (if1 .if1 .left)) (code-found .code-found .result) (code-found .code-found .ensures ∙ ap codeFound e)
     (operation-named .operation-named .result) (operation-named .operation-named .ensures)
     (ap (isClass 3 5) (sym (class .class .ensures)) ∙ (sym (is-class .is-class .ensures) ∙ if2 .if2 .left))
     (sym (is-other .is-other .ensures (start .args .x .now)) ∙ if3 .if3 .left) (result .result .result) (result .result .ensures) _
@@ -115,7 +116,7 @@ returns-4 c =
     (c .problem4 .ensures)
 
 returns-5 : tie.Need-returns-5
-returns-5 c =
+returns-5 c = λ s e.
     let is-right = c .before in
     let body-value = is-right .before in
     let result = body-value .before in
@@ -125,12 +126,12 @@ returns-5 c =
     let is-class = if2 .before in
     let class = is-class .before in
     let operation-named = class .before in
-    let own-code = operation-named .before in
-    let if1 = own-code .before in
-    let has-own = if1 .before in
-    let start = has-own .before .before .before in
-    result-right (start .args .table .now) (start .args .state) (start .args .id) (readBody (start .args .x .now) (start .args .body))
-    (said-yes (has-own .has-own .ensures) (if1 .if1 .left)) (own-code .own-code .result) (own-code .own-code .ensures)
+    let code-found = operation-named .before in
+    let if1 = code-found .before in
+    let is-found = if1 .before in
+    let start = is-found .before .before .before in
+    result-right (start .args .table .now) s (start .args .id) (readBody (start .args .x .now) (start .args .body))
+    (said-yes (found-is-member (start .args .id) (ownRecords s) e (is-found .is-found .ensures)) (if1 .if1 .left)) (code-found .code-found .result) (code-found .code-found .ensures ∙ ap codeFound e)
     (operation-named .operation-named .result) (operation-named .operation-named .ensures)
     (ap (isClass 3 5) (sym (class .class .ensures)) ∙ (sym (is-class .is-class .ensures) ∙ if2 .if2 .left))
     (sym (is-other .is-other .ensures (start .args .x .now)) ∙ if3 .if3 .left) (result .result .result) (result .result .ensures)
@@ -140,10 +141,10 @@ pub check-result-spec : {M : Type 1} → statement M
 check-result-spec =
     tie.close
     (tie.spec
-    has-own-requires
+    is-found-requires
     problem-requires
     returns
-    own-code-requires
+    code-found-requires
     operation-named-requires
     class-requires
     is-class-requires

@@ -8,22 +8,24 @@ use Rattle.optable.specs.Lookup.{operationOf, paired}
 use Rattle.protocol.specs.Check.{isClass}
 use Rattle.rose.proofs.Verdicts.{moved}
 use Rattle.base.proofs.Tests.{said-no, said-yes}
+use Rattle.protocol.specs.Check.{codeFound, peerRecords}
+use Rattle.rose.proofs.UsableAnswers.{found-is-member}
 use borrow.Author.Needs.{needs}
 use Rattle.rose.proofs.request.check_error.Statement.{statement}
 use Rattle.rose.proofs.request.check_error.Tie as tie
 
-has-peer-requires : tie.Need-has-peer-requires
-has-peer-requires c κs = search needs
+is-found-requires : tie.Need-is-found-requires
+is-found-requires c κs = search needs
 
 returns : tie.Need-returns
-returns c =
-    let has-peer = c .before in
-    let start = has-peer .before .before .before in
-    error-unknown (start .args .table .now) (start .args .state) (start .args .id .0) (start .args .code) (start .args .value .now)
-    (start .args .room) (said-no (has-peer .has-peer .ensures) (c .if1 .taken))
+returns c = λ s e.
+    let is-found = c .before in
+    let start = is-found .before .before .before in
+    error-unknown (start .args .table .now) s (start .args .id .0) (start .args .code) (start .args .value .now)
+    (start .args .room) (said-no (found-is-member (start .args .id .0) (peerRecords s) e (is-found .is-found .ensures)) (c .if1 .taken))
 
-peer-code-requires : tie.Need-peer-code-requires
-peer-code-requires c κs = search needs
+code-found-requires : tie.Need-code-found-requires
+code-found-requires c κs = search needs
 
 operation-named-requires : tie.Need-operation-named-requires
 operation-named-requires c κs = search needs
@@ -35,17 +37,17 @@ is-class-requires : tie.Need-is-class-requires
 is-class-requires c κs = search needs
 
 returns-2 : tie.Need-returns-2
-returns-2 c =
+returns-2 c = λ s e.
     let is-class = c .before in
     let class = is-class .before in
     let operation-named = class .before in
-    let peer-code = operation-named .before in
-    let if1 = peer-code .before in
-    let has-peer = if1 .before in
-    let start = has-peer .before .before .before in
-    error-class (start .args .table .now) (start .args .state) (start .args .id .0) (start .args .code) (start .args .value .now) (start .args .room)
-    (said-yes (has-peer .has-peer .ensures) (if1 .if1 .left)) (operation-named .operation-named .result)
-    (operation-named .operation-named .ensures ∙ ap (operationOf (start .args .table .now)) (peer-code .peer-code .ensures))
+    let code-found = operation-named .before in
+    let if1 = code-found .before in
+    let is-found = if1 .before in
+    let start = is-found .before .before .before in
+    error-class (start .args .table .now) s (start .args .id .0) (start .args .code) (start .args .value .now) (start .args .room)
+    (said-yes (found-is-member (start .args .id .0) (peerRecords s) e (is-found .is-found .ensures)) (if1 .if1 .left)) (operation-named .operation-named .result)
+    (operation-named .operation-named .ensures ∙ ap (operationOf (start .args .table .now)) (code-found .code-found .ensures ∙ ap codeFound e))
     (ap (isClass 4 5) (sym (class .class .ensures)) ∙ (sym (is-class .is-class .ensures) ∙ c .if2 .taken))
 
 error-named-requires : tie.Need-error-named-requires
@@ -55,20 +57,20 @@ is-known-requires : tie.Need-is-known-requires
 is-known-requires c κs = search needs
 
 returns-3 : tie.Need-returns-3
-returns-3 c =
+returns-3 c = λ s e.
     let is-known = c .before in
     let error-named = is-known .before in
     let if2 = error-named .before in
     let is-class = if2 .before in
     let class = is-class .before in
     let operation-named = class .before in
-    let peer-code = operation-named .before in
-    let if1 = peer-code .before in
-    let has-peer = if1 .before in
-    let start = has-peer .before .before .before in
-    error-not-known (start .args .table .now) (start .args .state) (start .args .id .0) (start .args .code) (start .args .value .now)
-    (start .args .room) (said-yes (has-peer .has-peer .ensures) (if1 .if1 .left)) (operation-named .operation-named .result)
-    (operation-named .operation-named .ensures ∙ ap (operationOf (start .args .table .now)) (peer-code .peer-code .ensures))
+    let code-found = operation-named .before in
+    let if1 = code-found .before in
+    let is-found = if1 .before in
+    let start = is-found .before .before .before in
+    error-not-known (start .args .table .now) s (start .args .id .0) (start .args .code) (start .args .value .now)
+    (start .args .room) (said-yes (found-is-member (start .args .id .0) (peerRecords s) e (is-found .is-found .ensures)) (if1 .if1 .left)) (operation-named .operation-named .result)
+    (operation-named .operation-named .ensures ∙ ap (operationOf (start .args .table .now)) (code-found .code-found .ensures ∙ ap codeFound e))
     (ap (isClass 4 5) (sym (class .class .ensures)) ∙ (sym (is-class .is-class .ensures) ∙ if2 .if2 .left)) (error-named .error-named .result)
     (error-named .error-named .ensures) (said-no (is-known .is-known .ensures) (c .if3 .taken))
 
@@ -76,23 +78,23 @@ is-paired-requires : tie.Need-is-paired-requires
 is-paired-requires c κs = search needs
 
 returns-4 : tie.Need-returns-4
-returns-4 c =
+returns-4 c = λ s e.
     let is-paired = c .before in
     let error-named = is-paired .before .before .before in
     let if2 = error-named .before in
     let is-class = if2 .before in
     let class = is-class .before in
     let operation-named = class .before in
-    let peer-code = operation-named .before in
-    let if1 = peer-code .before in
-    let has-peer = if1 .before in
-    let start = has-peer .before .before .before in
-    error-not-paired (start .args .table .now) (start .args .state) (start .args .id .0) (start .args .code) (start .args .value .now)
-    (start .args .room) (said-yes (has-peer .has-peer .ensures) (if1 .if1 .left)) (operation-named .operation-named .result)
-    (operation-named .operation-named .ensures ∙ ap (operationOf (start .args .table .now)) (peer-code .peer-code .ensures))
+    let code-found = operation-named .before in
+    let if1 = code-found .before in
+    let is-found = if1 .before in
+    let start = is-found .before .before .before in
+    error-not-paired (start .args .table .now) s (start .args .id .0) (start .args .code) (start .args .value .now)
+    (start .args .room) (said-yes (found-is-member (start .args .id .0) (peerRecords s) e (is-found .is-found .ensures)) (if1 .if1 .left)) (operation-named .operation-named .result)
+    (operation-named .operation-named .ensures ∙ ap (operationOf (start .args .table .now)) (code-found .code-found .ensures ∙ ap codeFound e))
     (ap (isClass 4 5) (sym (class .class .ensures)) ∙ (sym (is-class .is-class .ensures) ∙ if2 .if2 .left)) (error-named .error-named .result)
     (error-named .error-named .ensures)
-    (moved (λ (k : Code). paired (start .args .table .now) k (start .args .code)) _ _ _ (peer-code .peer-code .ensures) (said-no (is-paired .is-paired .ensures .in-valid (start .pre)) (c .if4 .taken)))
+    (moved (λ (k : Code). paired (start .args .table .now) k (start .args .code)) _ _ _ (code-found .code-found .ensures ∙ ap codeFound e) (said-no (is-paired .is-paired .ensures .in-valid (start .pre)) (c .if4 .taken)))
 
 parameter-requires : tie.Need-parameter-requires
 parameter-requires c κs = search needs
@@ -104,7 +106,7 @@ fails-requires : tie.Need-fails-requires
 fails-requires c κs = search needs
 
 returns-5 : tie.Need-returns-5
-returns-5 c =
+returns-5 c = λ s e.
     let fails = c .before in
     let check-value = fails .before in
     let parameter = check-value .before in
@@ -117,16 +119,16 @@ returns-5 c =
     let is-class = if2 .before in
     let class = is-class .before in
     let operation-named = class .before in
-    let peer-code = operation-named .before in
-    let if1 = peer-code .before in
-    let has-peer = if1 .before in
-    let start = has-peer .before .before .before in
-    error-value (start .args .table .now) (start .args .state) (start .args .id .0) (start .args .code) (start .args .value .now) (start .args .room)
-    (said-yes (has-peer .has-peer .ensures) (if1 .if1 .left)) (operation-named .operation-named .result)
-    (operation-named .operation-named .ensures ∙ ap (operationOf (start .args .table .now)) (peer-code .peer-code .ensures))
+    let code-found = operation-named .before in
+    let if1 = code-found .before in
+    let is-found = if1 .before in
+    let start = is-found .before .before .before in
+    error-value (start .args .table .now) s (start .args .id .0) (start .args .code) (start .args .value .now) (start .args .room)
+    (said-yes (found-is-member (start .args .id .0) (peerRecords s) e (is-found .is-found .ensures)) (if1 .if1 .left)) (operation-named .operation-named .result)
+    (operation-named .operation-named .ensures ∙ ap (operationOf (start .args .table .now)) (code-found .code-found .ensures ∙ ap codeFound e))
     (ap (isClass 4 5) (sym (class .class .ensures)) ∙ (sym (is-class .is-class .ensures) ∙ if2 .if2 .left)) (error-named .error-named .result)
     (error-named .error-named .ensures) (said-yes (is-known .is-known .ensures) (if3 .if3 .left))
-    (moved (λ (k : Code). paired (start .args .table .now) k (start .args .code)) _ _ _ (peer-code .peer-code .ensures) (said-yes (is-paired .is-paired .ensures .in-valid (start .pre)) (if4 .if4 .left)))
+    (moved (λ (k : Code). paired (start .args .table .now) k (start .args .code)) _ _ _ (code-found .code-found .ensures ∙ ap codeFound e) (said-yes (is-paired .is-paired .ensures .in-valid (start .pre)) (if4 .if4 .left)))
     (parameter .parameter .result) (parameter .parameter .ensures) (check-value .check-value .result) (check-value .check-value .ensures)
     (sym (fails .fails .ensures) ∙ c .if5 .taken)
 
@@ -137,7 +139,7 @@ check-size-requires : tie.Need-check-size-requires
 check-size-requires c κs = search needs
 
 returns-6 : tie.Need-returns-6
-returns-6 c =
+returns-6 c = λ s e.
     let error-size = c .before in
     let if5 = error-size .before in
     let fails = if5 .before in
@@ -152,16 +154,16 @@ returns-6 c =
     let is-class = if2 .before in
     let class = is-class .before in
     let operation-named = class .before in
-    let peer-code = operation-named .before in
-    let if1 = peer-code .before in
-    let has-peer = if1 .before in
-    let start = has-peer .before .before .before in
-    error-sized (start .args .table .now) (start .args .state) (start .args .id .0) (start .args .code) (start .args .value .now) (start .args .room)
-    (said-yes (has-peer .has-peer .ensures) (if1 .if1 .left)) (operation-named .operation-named .result)
-    (operation-named .operation-named .ensures ∙ ap (operationOf (start .args .table .now)) (peer-code .peer-code .ensures))
+    let code-found = operation-named .before in
+    let if1 = code-found .before in
+    let is-found = if1 .before in
+    let start = is-found .before .before .before in
+    error-sized (start .args .table .now) s (start .args .id .0) (start .args .code) (start .args .value .now) (start .args .room)
+    (said-yes (found-is-member (start .args .id .0) (peerRecords s) e (is-found .is-found .ensures)) (if1 .if1 .left)) (operation-named .operation-named .result)
+    (operation-named .operation-named .ensures ∙ ap (operationOf (start .args .table .now)) (code-found .code-found .ensures ∙ ap codeFound e))
     (ap (isClass 4 5) (sym (class .class .ensures)) ∙ (sym (is-class .is-class .ensures) ∙ if2 .if2 .left)) (error-named .error-named .result)
     (error-named .error-named .ensures) (said-yes (is-known .is-known .ensures) (if3 .if3 .left))
-    (moved (λ (k : Code). paired (start .args .table .now) k (start .args .code)) _ _ _ (peer-code .peer-code .ensures) (said-yes (is-paired .is-paired .ensures .in-valid (start .pre)) (if4 .if4 .left)))
+    (moved (λ (k : Code). paired (start .args .table .now) k (start .args .code)) _ _ _ (code-found .code-found .ensures ∙ ap codeFound e) (said-yes (is-paired .is-paired .ensures .in-valid (start .pre)) (if4 .if4 .left)))
     (parameter .parameter .result) (parameter .parameter .ensures) (check-value .check-value .result) (check-value .check-value .ensures)
     (sym (fails .fails .ensures) ∙ if5 .if5 .left) _
     (c .check-size .ensures (encodeError (start .args .id .0) (start .args .code) (given (start .args .value .now))) (error-size .error-size .ensures))
@@ -170,9 +172,9 @@ pub check-error-spec : {M : Type 1} → statement M
 check-error-spec =
     tie.close
     (tie.spec
-    has-peer-requires
+    is-found-requires
     returns
-    peer-code-requires
+    code-found-requires
     operation-named-requires
     class-requires
     is-class-requires

@@ -9,22 +9,24 @@ use Rattle.apdu.specs.Encode.{encodeResult}
 use Rattle.optable.specs.Lookup.{operationOf}
 use Rattle.protocol.specs.Check.{isClass}
 use Rattle.base.proofs.Tests.{said-no, said-yes}
+use Rattle.protocol.specs.Check.{codeFound, peerRecords}
+use Rattle.rose.proofs.UsableAnswers.{found-is-member}
 use borrow.Author.Needs.{needs}
 use Rattle.rose.proofs.request.check_result.Statement.{statement}
 use Rattle.rose.proofs.request.check_result.Tie as tie
 
-has-peer-requires : tie.Need-has-peer-requires
-has-peer-requires c κs = search needs
+is-found-requires : tie.Need-is-found-requires
+is-found-requires c κs = search needs
 
 returns : tie.Need-returns
-returns c =
-    let has-peer = c .before in
-    let start = has-peer .before .before .before in
-    result-unknown (start .args .table .now) (start .args .state) (start .args .id .0) (start .args .value .now) (start .args .room)
-    (said-no (has-peer .has-peer .ensures) (c .if1 .taken))
+returns c = λ s e.
+    let is-found = c .before in
+    let start = is-found .before .before .before in
+    result-unknown (start .args .table .now) s (start .args .id .0) (start .args .value .now) (start .args .room)
+    (said-no (found-is-member (start .args .id .0) (peerRecords s) e (is-found .is-found .ensures)) (c .if1 .taken))
 
-peer-code-requires : tie.Need-peer-code-requires
-peer-code-requires c κs = search needs
+code-found-requires : tie.Need-code-found-requires
+code-found-requires c κs = search needs
 
 operation-named-requires : tie.Need-operation-named-requires
 operation-named-requires c κs = search needs
@@ -36,17 +38,17 @@ is-class-requires : tie.Need-is-class-requires
 is-class-requires c κs = search needs
 
 returns-2 : tie.Need-returns-2
-returns-2 c =
+returns-2 c = λ s e.
     let is-class = c .before in
     let class = is-class .before in
     let operation-named = class .before in
-    let peer-code = operation-named .before in
-    let if1 = peer-code .before in
-    let has-peer = if1 .before in
-    let start = has-peer .before .before .before in
-    result-class (start .args .table .now) (start .args .state) (start .args .id .0) (start .args .value .now) (start .args .room)
-    (said-yes (has-peer .has-peer .ensures) (if1 .if1 .left)) (operation-named .operation-named .result)
-    (operation-named .operation-named .ensures ∙ ap (operationOf (start .args .table .now)) (peer-code .peer-code .ensures))
+    let code-found = operation-named .before in
+    let if1 = code-found .before in
+    let is-found = if1 .before in
+    let start = is-found .before .before .before in
+    result-class (start .args .table .now) s (start .args .id .0) (start .args .value .now) (start .args .room)
+    (said-yes (found-is-member (start .args .id .0) (peerRecords s) e (is-found .is-found .ensures)) (if1 .if1 .left)) (operation-named .operation-named .result)
+    (operation-named .operation-named .ensures ∙ ap (operationOf (start .args .table .now)) (code-found .code-found .ensures ∙ ap codeFound e))
     (ap (isClass 3 5) (sym (class .class .ensures)) ∙ (sym (is-class .is-class .ensures) ∙ c .if2 .taken))
 
 result-requires : tie.Need-result-requires
@@ -59,7 +61,7 @@ fails-requires : tie.Need-fails-requires
 fails-requires c κs = search needs
 
 returns-3 : tie.Need-returns-3
-returns-3 c =
+returns-3 c = λ s e.
     let fails = c .before in
     let check-value = fails .before in
     let result = check-value .before in
@@ -67,13 +69,13 @@ returns-3 c =
     let is-class = if2 .before in
     let class = is-class .before in
     let operation-named = class .before in
-    let peer-code = operation-named .before in
-    let if1 = peer-code .before in
-    let has-peer = if1 .before in
-    let start = has-peer .before .before .before in
-    result-value (start .args .table .now) (start .args .state) (start .args .id .0) (start .args .value .now) (start .args .room)
-    (said-yes (has-peer .has-peer .ensures) (if1 .if1 .left)) (operation-named .operation-named .result)
-    (operation-named .operation-named .ensures ∙ ap (operationOf (start .args .table .now)) (peer-code .peer-code .ensures))
+    let code-found = operation-named .before in
+    let if1 = code-found .before in
+    let is-found = if1 .before in
+    let start = is-found .before .before .before in
+    result-value (start .args .table .now) s (start .args .id .0) (start .args .value .now) (start .args .room)
+    (said-yes (found-is-member (start .args .id .0) (peerRecords s) e (is-found .is-found .ensures)) (if1 .if1 .left)) (operation-named .operation-named .result)
+    (operation-named .operation-named .ensures ∙ ap (operationOf (start .args .table .now)) (code-found .code-found .ensures ∙ ap codeFound e))
     (ap (isClass 3 5) (sym (class .class .ensures)) ∙ (sym (is-class .is-class .ensures) ∙ if2 .if2 .left)) (result .result .result)
     (result .result .ensures) (check-value .check-value .result) (check-value .check-value .ensures) (sym (fails .fails .ensures) ∙ c .if3 .taken)
 
@@ -84,7 +86,7 @@ check-size-requires : tie.Need-check-size-requires
 check-size-requires c κs = search needs
 
 returns-4 : tie.Need-returns-4
-returns-4 c =
+returns-4 c = λ s e.
     let result-size = c .before in
     let if3 = result-size .before in
     let fails = if3 .before in
@@ -94,25 +96,25 @@ returns-4 c =
     let is-class = if2 .before in
     let class = is-class .before in
     let operation-named = class .before in
-    let peer-code = operation-named .before in
-    let if1 = peer-code .before in
-    let has-peer = if1 .before in
-    let start = has-peer .before .before .before in
-    result-sized (start .args .table .now) (start .args .state) (start .args .id .0) (start .args .value .now) (start .args .room)
-    (said-yes (has-peer .has-peer .ensures) (if1 .if1 .left)) (operation-named .operation-named .result)
-    (operation-named .operation-named .ensures ∙ ap (operationOf (start .args .table .now)) (peer-code .peer-code .ensures))
+    let code-found = operation-named .before in
+    let if1 = code-found .before in
+    let is-found = if1 .before in
+    let start = is-found .before .before .before in
+    result-sized (start .args .table .now) s (start .args .id .0) (start .args .value .now) (start .args .room)
+    (said-yes (found-is-member (start .args .id .0) (peerRecords s) e (is-found .is-found .ensures)) (if1 .if1 .left)) (operation-named .operation-named .result)
+    (operation-named .operation-named .ensures ∙ ap (operationOf (start .args .table .now)) (code-found .code-found .ensures ∙ ap codeFound e))
     (ap (isClass 3 5) (sym (class .class .ensures)) ∙ (sym (is-class .is-class .ensures) ∙ if2 .if2 .left)) (result .result .result)
     (result .result .ensures) (check-value .check-value .result) (check-value .check-value .ensures) (sym (fails .fails .ensures) ∙ if3 .if3 .left) _
-    (c .check-size .ensures (resultApdu (start .args .state) (start .args .id .0) (start .args .value .now))
-    (result-size .result-size .ensures ∙ ap (λ (k : Code). length (encodeResult (start .args .id .0) k (given (start .args .value .now)))) (peer-code .peer-code .ensures)))
+    (c .check-size .ensures (resultApdu s (start .args .id .0) (start .args .value .now))
+    (result-size .result-size .ensures ∙ ap (λ (k : Code). length (encodeResult (start .args .id .0) k (given (start .args .value .now)))) (code-found .code-found .ensures ∙ ap codeFound e)))
 
 pub check-result-spec : {M : Type 1} → statement M
 check-result-spec =
     tie.close
     (tie.spec
-    has-peer-requires
+    is-found-requires
     returns
-    peer-code-requires
+    code-found-requires
     operation-named-requires
     class-requires
     is-class-requires

@@ -1,8 +1,8 @@
 -- The first numbers decide unless they are the same.
 use native.Mathlib.Omega.{arith}
 use Rattle.optable.proofs.ValidityAnswers.{first-below, first-above, first-same}
-use Rattle.optable.proofs.validity.is_pair_below.Statement.{statement}
-use Rattle.optable.proofs.validity.is_pair_below.Tie as tie
+use Rattle.optable.proofs.entry.is_pair_below.Statement.{statement}
+use Rattle.optable.proofs.entry.is_pair_below.Tie as tie
 
 returns : tie.Need-returns
 returns c = first-below _ _ _ _ (omega arith)

@@ -3,8 +3,8 @@ use native.Mathlib.Omega.{arith}
 use Rattle.optable.specs.Validity.{allowed}
 use Rattle.optable.proofs.ValidityAnswers.{class-4-errorless, class-5-errorless, class-5-childless}
 use borrow.Author.Needs.{needs}
-use Rattle.optable.proofs.validity.is_allowed.Statement.{statement}
-use Rattle.optable.proofs.validity.is_allowed.Tie as tie
+use Rattle.optable.proofs.entry.is_allowed.Statement.{statement}
+use Rattle.optable.proofs.entry.is_allowed.Tie as tie
 
 enum-told : tie.Need-enum-told
 enum-told c = search needs

@@ -3,8 +3,8 @@ use native.Mathlib.Omega.{arith}
 use Rattle.base.proofs.Tests.{said-no, said-yes}
 use Rattle.optable.proofs.ValidityAnswers.{class-low, class-high, flags-high, argument-wrong, result-wrong, class-3-decides, class-5-decides, other-class-right}
 use borrow.Author.Needs.{needs}
-use Rattle.optable.proofs.validity.is_operation_right.Statement.{statement}
-use Rattle.optable.proofs.validity.is_operation_right.Tie as tie
+use Rattle.optable.proofs.entry.is_operation_right.Statement.{statement}
+use Rattle.optable.proofs.entry.is_operation_right.Tie as tie
 
 returns : tie.Need-returns
 returns c = class-low _ _ _ _ (omega arith)

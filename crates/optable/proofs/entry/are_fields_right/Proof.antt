@@ -1,20 +1,21 @@
 -- By the part: the check of its entries.
-use Rattle.optable.specs.Validity.{fieldsRight}
+use mathlib.Core.Path.{_∙_}
+use Rattle.optable.proofs.WalkLaws.{stands-as, error-pair-fields, child-pair-fields}
 use borrow.Author.Needs.{needs}
-use Rattle.optable.proofs.validity.are_fields_right.Statement.{statement}
-use Rattle.optable.proofs.validity.are_fields_right.Tie as tie
+use Rattle.optable.proofs.entry.are_fields_right.Statement.{statement}
+use Rattle.optable.proofs.entry.are_fields_right.Tie as tie
 
 enum-told : tie.Need-enum-told
 enum-told c = search needs
 
 is-operation-at-right-requires : tie.Need-is-operation-at-right-requires
-is-operation-at-right-requires c κs = search needs
+is-operation-at-right-requires c κs = stands-as (cc) (c .before .before .before .pre .0)
 
 enum-told-2 : tie.Need-enum-told-2
 enum-told-2 c = search needs
 
 is-error-at-right-requires : tie.Need-is-error-at-right-requires
-is-error-at-right-requires c κs = search needs
+is-error-at-right-requires c κs = stands-as (cc) (c .before .before .before .pre .0)
 
 enum-told-3 : tie.Need-enum-told-3
 enum-told-3 c = search needs
@@ -35,12 +36,10 @@ returns-2 : tie.Need-returns-2
 returns-2 c = cc
 
 returns-3 : tie.Need-returns-3
-unfolding fieldsRight
-returns-3 c = cc
+returns-3 c = c .is-pair-right .ensures ∙ error-pair-fields _ _ _ (cc)
 
 returns-4 : tie.Need-returns-4
-unfolding fieldsRight
-returns-4 c = cc
+returns-4 c = c .is-pair-right2 .ensures ∙ child-pair-fields _ _ _ (cc)
 
 pub are-fields-right-spec : {M : Type 1} → statement M
 are-fields-right-spec =

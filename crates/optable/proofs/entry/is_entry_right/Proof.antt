@@ -2,8 +2,8 @@
 use Rattle.base.proofs.Tests.{said-no, said-yes}
 use Rattle.optable.proofs.ValidityAnswers.{entry-wrong, order-decides}
 use borrow.Author.Needs.{needs}
-use Rattle.optable.proofs.validity.is_entry_right.Statement.{statement}
-use Rattle.optable.proofs.validity.is_entry_right.Tie as tie
+use Rattle.optable.proofs.entry.is_entry_right.Statement.{statement}
+use Rattle.optable.proofs.entry.is_entry_right.Tie as tie
 
 are-fields-right-requires : tie.Need-are-fields-right-requires
 are-fields-right-requires c κs = search needs
