@@ -30,8 +30,7 @@ by-kind-requires c κs = search needs
 returns-2 : tie.Need-returns-2
 unfolding parseAt
 returns-2 c =
-    let id = c .before .before in
-    let header-of = id .before .before in
+    let id = c .before .before in let header-of = id .before .before in
     let g = id .id .given in
     c .by-kind .ensures ∙ parse-by _ _ (cc) (header-of .header-of .ensures) (At (g .0 .0) (g .0 .1 .0) (g .0 .1 .1 .0)) (cc)
 

@@ -75,25 +75,19 @@ contents-primitive-requires t c κs = search needs
 
 contents-add-at : (t : ℕ) → contents-lts.Need-add-at (contents-calls t) (contents-at t) contents.Post contents-Inv-loop contents-μ-loop
 contents-add-at t c =
-    let primitive = c .before in
-    let loop = primitive .before .before .before in
-    let start = loop .before .before .before in
+    let primitive = c .before in let loop = primitive .before .before .before in let start = loop .before .before .before in
     let found = primitive .primitive .ensures (start .args .levels) (omega arith) (omega arith) in
     omega (arith, rest-room (start .args .levels) (start .args .s .now) (loop .loop .at) (Good (primitive .primitive .result)) found (primitive .primitive .result) refl, start .good)
 
 contents-loop-less : (t : ℕ) → contents-lts.Need-loop-less (contents-calls t) (contents-at t) contents.Post contents-Inv-loop contents-μ-loop
 contents-loop-less t c =
-    let primitive = c .before in
-    let loop = primitive .before .before .before in
-    let start = loop .before .before .before in
+    let primitive = c .before in let loop = primitive .before .before .before in let start = loop .before .before .before in
     let found = primitive .primitive .ensures (start .args .levels) (omega arith) (omega arith) in
     omega (arith, rest-room (start .args .levels) (start .args .s .now) (loop .loop .at) (Good (primitive .primitive .result)) found (primitive .primitive .result) refl)
 
 contents-loop-again : (t : ℕ) → contents-lts.Need-loop-again (contents-calls t) (contents-at t) contents.Post contents-Inv-loop contents-μ-loop
 contents-loop-again t c =
-    let primitive = c .before in
-    let loop = primitive .before .before .before in
-    let start = loop .before .before .before in
+    let primitive = c .before in let loop = primitive .before .before .before in let start = loop .before .before .before in
     let found = primitive .primitive .ensures (start .args .levels) (omega arith) (omega arith) in (
       omega (arith, rest-room (start .args .levels) (start .args .s .now) (loop .loop .at) (Good (primitive .primitive .result)) found (primitive .primitive .result) refl),
       loop .loop .inv .1 ∙ rest-step (start .args .levels) (start .args .s .now) (loop .loop .at) (Good (primitive .primitive .result)) found (primitive .primitive .result) refl,
@@ -110,8 +104,7 @@ contents-part-element-end t c = search needs
 
 contents-element-requires : (t : ℕ) → contents-lts.Need-element-requires (contents-calls t) (contents-at t) contents.Post contents-Inv-loop contents-μ-loop
 contents-element-requires t c κs =
-    let loop = c .before .before .before .before .before in
-    let start = loop .before .before .before in
+    let loop = c .before .before .before .before .before in let start = loop .before .before .before in
     (omega (arith, ap length (rest (start .args .s .now) (loop .loop .at)), length-drop (loop .loop .at) (start .args .s .now), start .pre .0), tt)
 
 contents-enum-told : (t : ℕ) → contents-lts.Need-enum-told (contents-calls t) (contents-at t) contents.Post contents-Inv-loop contents-μ-loop
@@ -119,8 +112,7 @@ contents-enum-told t c = search needs
 
 contents-returns-2 : (t : ℕ) → contents-lts.Need-returns-2 (contents-calls t) (contents-at t) contents.Post contents-Inv-loop contents-μ-loop
 contents-returns-2 t c =
-    let element = c .before .before in
-    let loop = element .before .before .before .before .before .before in
+    let element = c .before .before in let loop = element .before .before .before .before .before .before in
     let start = loop .before .before .before in
     sym (loop .loop .inv .1 ∙ rest-fault (start .args .levels) (start .args .s .now) (loop .loop .at) (element .element .result) (element .element .ensures) (omega arith) (cc))
 
@@ -129,25 +121,19 @@ contents-enum-known-len t c = search needs
 
 contents-add-at-2 : (t : ℕ) → contents-lts.Need-add-at-2 (contents-calls t) (contents-at t) contents.Post contents-Inv-loop contents-μ-loop
 contents-add-at-2 t c =
-    let len = c .before in
-    let element = len .before .before in
-    let loop = element .before .before .before .before .before .before in
+    let len = c .before in let element = len .before .before in let loop = element .before .before .before .before .before .before in
     let start = loop .before .before .before in
     omega (arith, rest-room (start .args .levels) (start .args .s .now) (loop .loop .at) (element .element .result) (element .element .ensures) (len .len .given .0 .0) (cc), start .good)
 
 contents-loop-less-2 : (t : ℕ) → contents-lts.Need-loop-less-2 (contents-calls t) (contents-at t) contents.Post contents-Inv-loop contents-μ-loop
 contents-loop-less-2 t c =
-    let len = c .before in
-    let element = len .before .before in
-    let loop = element .before .before .before .before .before .before in
+    let len = c .before in let element = len .before .before in let loop = element .before .before .before .before .before .before in
     let start = loop .before .before .before in
     omega (arith, rest-room (start .args .levels) (start .args .s .now) (loop .loop .at) (element .element .result) (element .element .ensures) (len .len .given .0 .0) (cc))
 
 contents-loop-again-2 : (t : ℕ) → contents-lts.Need-loop-again-2 (contents-calls t) (contents-at t) contents.Post contents-Inv-loop contents-μ-loop
 contents-loop-again-2 t c =
-    let len = c .before in
-    let element = len .before .before in
-    let loop = element .before .before .before .before .before .before in
+    let len = c .before in let element = len .before .before in let loop = element .before .before .before .before .before .before in
     let start = loop .before .before .before in (
       omega (arith, rest-room (start .args .levels) (start .args .s .now) (loop .loop .at) (element .element .result) (element .element .ensures) (len .len .given .0 .0) (cc)),
       loop .loop .inv .1 ∙ rest-step (start .args .levels) (start .args .s .now) (loop .loop .at) (element .element .result) (element .element .ensures) (len .len .given .0 .0) (cc),
@@ -155,8 +141,7 @@ contents-loop-again-2 t c =
 
 contents-returns-3 : (t : ℕ) → contents-lts.Need-returns-3 (contents-calls t) (contents-at t) contents.Post contents-Inv-loop contents-μ-loop
 contents-returns-3 t c =
-    let loop = c .before in
-    let start = loop .before .before .before in
+    let loop = c .before in let start = loop .before .before .before in
     sym (loop .loop .inv .1 ∙ rest-end (start .args .levels) (start .args .s .now) (loop .loop .at) (omega arith))
 
 element-returns : (t : ℕ) → element-lts.Need-returns (element-calls t) (element-at t) element.Post
@@ -173,10 +158,7 @@ element-enum-known-id t c = search needs
 
 element-sub-c : (t : ℕ) → element-lts.Need-sub-c (element-calls t) (element-at t) element.Post
 element-sub-c t c =
-    let id = c .before in
-    let header-of = id .before .before in
-    let if1 = header-of .before in
-    let start = if1 .before .before in
+    let id = c .before in let header-of = id .before .before in let if1 = header-of .before in let start = if1 .before .before in
     omega (
       arith,
       header-room (start .args .levels) (start .args .s .now) (header-of .header-of .result) (if1 .if1 .left)
@@ -185,10 +167,7 @@ element-sub-c t c =
 
 element-part-c-start : (t : ℕ) → element-lts.Need-part-c-start (element-calls t) (element-at t) element.Post
 element-part-c-start t c =
-    let id = c .before in
-    let header-of = id .before .before in
-    let if1 = header-of .before in
-    let start = if1 .before .before in
+    let id = c .before in let header-of = id .before .before in let if1 = header-of .before in let start = if1 .before .before in
     omega (
       arith,
       header-room (start .args .levels) (start .args .s .now) (header-of .header-of .result) (if1 .if1 .left)
@@ -197,10 +176,7 @@ element-part-c-start t c =
 
 element-part-c-end : (t : ℕ) → element-lts.Need-part-c-end (element-calls t) (element-at t) element.Post
 element-part-c-end t c =
-    let id = c .before in
-    let header-of = id .before .before in
-    let if1 = header-of .before in
-    let start = if1 .before .before in
+    let id = c .before in let header-of = id .before .before in let if1 = header-of .before in let start = if1 .before .before in
     omega (
       arith,
       header-room (start .args .levels) (start .args .s .now) (header-of .header-of .result) (if1 .if1 .left)
@@ -215,9 +191,7 @@ element-sub-contents t c = omega arith
 
 element-contents-requires : (t : ℕ) → element-lts.Need-contents-requires (element-calls t) (element-at t) element.Post
 element-contents-requires t c κs =
-    let id = c .before .before .before .before .before in
-    let header-of = id .before .before in
-    let if1 = header-of .before in
+    let id = c .before .before .before .before .before in let header-of = id .before .before in let if1 = header-of .before in
     let start = if1 .before .before in (
       omega
           (arith, part-shorter (start .args .s .now) (id .id .given .0 .0) (id .id .given .0 .1 .0) (id .id .given .0 .1 .1 .0) (header-room (start .args .levels) (start .args .s .now) (header-of .header-of .result) (if1 .if1 .left) (header-of .header-of .ensures) (id .id .given .0 .0) (id .id .given .0 .1 .0) (id .id .given .0 .1 .1 .0) (cc)), start .pre .0),
@@ -229,12 +203,8 @@ element-returns-2 t c = element-no-header _ _ _ (c .before .before .before .if1 
 
 element-returns-3 : (t : ℕ) → element-lts.Need-returns-3 (element-calls t) (element-at t) element.Post
 element-returns-3 t c =
-    let contents = c .before in
-    let if2 = contents .before .before in
-    let content-rule = if2 .before in
-    let id = content-rule .before .before .before in
-    let header-of = id .before .before in
-    let if1 = header-of .before in
+    let contents = c .before in let if2 = contents .before .before in let content-rule = if2 .before in
+    let id = content-rule .before .before .before in let header-of = id .before .before in let if1 = header-of .before in
     let start = if1 .before .before in
     element-constructed (start .args .levels) (start .args .s .now) (header-of .header-of .result) (if1 .if1 .left) (header-of .header-of .ensures)
     (id .id .given .0 .0) (id .id .given .0 .1 .0) (id .id .given .0 .1 .1 .0) (cc) (sym (content-rule .content-rule .ensures) ∙ if2 .if2 .taken)
@@ -242,33 +212,23 @@ element-returns-3 t c =
 
 element-returns-4 : (t : ℕ) → element-lts.Need-returns-4 (element-calls t) (element-at t) element.Post
 element-returns-4 t c =
-    let contents = c .before in
-    let id = contents .before .before .before .before .before .before in
-    let header-of = id .before .before in
-    let if1 = header-of .before in
-    let start = if1 .before .before in
+    let contents = c .before in let id = contents .before .before .before .before .before .before in let header-of = id .before .before in
+    let if1 = header-of .before in let start = if1 .before .before in
     element-inside-wrong (start .args .levels) (start .args .s .now) (header-of .header-of .result) (if1 .if1 .left) (header-of .header-of .ensures)
     (id .id .given .0 .0) (id .id .given .0 .1 .0) (id .id .given .0 .1 .1 .0) (cc) (omega arith) (sym (contents .contents .ensures) ∙ c .if4 .left)
 
 element-returns-5 : (t : ℕ) → element-lts.Need-returns-5 (element-calls t) (element-at t) element.Post
 element-returns-5 t c =
-    let if2 = c .before in
-    let content-rule = if2 .before in
-    let id = content-rule .before .before .before in
-    let header-of = id .before .before in
-    let if1 = header-of .before in
-    let start = if1 .before .before in
+    let if2 = c .before in let content-rule = if2 .before in let id = content-rule .before .before .before in let header-of = id .before .before in
+    let if1 = header-of .before in let start = if1 .before .before in
     element-primitive (start .args .levels) (start .args .s .now) (header-of .header-of .result) (if1 .if1 .left) (header-of .header-of .ensures)
     (id .id .given .0 .0) (id .id .given .0 .1 .0) (id .id .given .0 .1 .1 .0) (cc) (sym (content-rule .content-rule .ensures) ∙ if2 .if2 .taken)
     (omega arith)
 
 element-returns-6 : (t : ℕ) → element-lts.Need-returns-6 (element-calls t) (element-at t) element.Post
 element-returns-6 t c =
-    let content-rule = c .before in
-    let id = content-rule .before .before .before in
-    let header-of = id .before .before in
-    let if1 = header-of .before in
-    let start = if1 .before .before in
+    let content-rule = c .before in let id = content-rule .before .before .before in let header-of = id .before .before in
+    let if1 = header-of .before in let start = if1 .before .before in
     element-wrong (start .args .levels) (start .args .s .now) (header-of .header-of .result) (if1 .if1 .left) (header-of .header-of .ensures)
     (id .id .given .0 .0) (id .id .given .0 .1 .0) (id .id .given .0 .1 .1 .0) (cc) (sym (content-rule .content-rule .ensures) ∙ c .if2 .left)
 

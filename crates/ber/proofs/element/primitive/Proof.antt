@@ -20,8 +20,7 @@ returns c = λ d p q. absurd (omega arith)
 
 sub-content-rule : tie.Need-sub-content-rule
 sub-content-rule c =
-    let id = c .before .before in
-    let header-of = id .before .before in
+    let id = c .before .before in let header-of = id .before .before in
     omega (
       arith,
       header-room 1 (header-of .before .before .args .s .now) (header-of .header-of .result) (λ z. omega arith) (header-of .header-of .ensures)
@@ -30,8 +29,7 @@ sub-content-rule c =
 
 part-content-rule-start : tie.Need-part-content-rule-start
 part-content-rule-start c =
-    let id = c .before .before in
-    let header-of = id .before .before in
+    let id = c .before .before in let header-of = id .before .before in
     omega (
       arith,
       header-room 1 (header-of .before .before .args .s .now) (header-of .header-of .result) (λ z. omega arith) (header-of .header-of .ensures)
@@ -40,8 +38,7 @@ part-content-rule-start c =
 
 part-content-rule-end : tie.Need-part-content-rule-end
 part-content-rule-end c =
-    let id = c .before .before in
-    let header-of = id .before .before in
+    let id = c .before .before in let header-of = id .before .before in
     omega (
       arith,
       header-room 1 (header-of .before .before .args .s .now) (header-of .header-of .result) (λ z. omega arith) (header-of .header-of .ensures)
@@ -53,8 +50,7 @@ content-rule-requires c κs = search needs
 
 returns-2 : tie.Need-returns-2
 returns-2 c = λ d p q.
-    let id = c .before .before .before .before .before in
-    let header-of = id .before .before in
+    let id = c .before .before .before .before .before in let header-of = id .before .before in
     element-primitive d (header-of .before .before .args .s .now) (header-of .header-of .result) (λ z. omega arith) (header-of .header-of .ensures)
     (id .id .given .0 .0) (id .id .given .0 .1 .0) (id .id .given .0 .1 .1 .0) (cc) (sym (c .before .content-rule .ensures) ∙ c .if2 .taken) (λ z. omega arith)
 

@@ -25,8 +25,7 @@ shared-slice-read-if2 c = omega arith
 
 returns-2 : tie.Need-returns-2 Inv-loop μ-loop
 returns-2 c =
-    let loop = c .before .before .before .before in
-    let start = loop .before in
+    let loop = c .before .before .before .before in let start = loop .before in
     omega (arith, continued-stop (4 - loop .loop .k) (start .args .s .now) (loop .loop .k) (omega arith) (omega arith))
 
 add-k : tie.Need-add-k Inv-loop μ-loop
@@ -37,8 +36,7 @@ loop-less c = omega arith
 
 loop-again : tie.Need-loop-again Inv-loop μ-loop
 loop-again c =
-    let loop = c .before .before .before .before in
-    let start = loop .before in
+    let loop = c .before .before .before .before in let start = loop .before in
     let s = start .args .s .now in
     let k = loop .loop .k in
     let e : 4 - k ≡ suc (4 - (k + 1)) = omega arith in

@@ -51,24 +51,19 @@ enum-known-octets c = search needs
 
 header-with-requires-2 : tie.Need-header-with-requires-2
 header-with-requires-2 c κs =
-    let octets = c .before in
-    let length-of = octets .before .before in
-    let ident = length-of .before .before .before .before in
+    let octets = c .before in let length-of = octets .before .before in let ident = length-of .before .before .before .before in
     let room = header-room (ident .before .before .args .s .now) (ident .identifier-octets .result) (length-of .length-of .result)
     (ident .identifier-octets .ensures) (length-of .length-of .ensures) (octets .octets .given .0 .0) (octets .octets .given .0 .1 .0) (cc) in
     (omega arith, room .1)
 
 returns-3 : tie.Need-returns-3
 returns-3 c =
-    let length-of = c .before .before in
-    let ident = length-of .before .before .before .before in
+    let length-of = c .before .before in let ident = length-of .before .before .before .before in
     header-no-length _ _ _ (ident .identifier-octets .ensures) (length-of .length-of .ensures) (omega arith) (cc)
 
 returns-4 : tie.Need-returns-4
 returns-4 c =
-    let octets = c .before .before in
-    let length-of = octets .before .before in
-    let ident = length-of .before .before .before .before in
+    let octets = c .before .before in let length-of = octets .before .before in let ident = length-of .before .before .before .before in
     header-parsed _ _ _ (ident .identifier-octets .ensures) (length-of .length-of .ensures) (omega arith)
     (c .header-with2 .ensures ∙ ap (headerWith (ident .before .before .args .s .now) (ident .identifier-octets .result)) (cc))
 

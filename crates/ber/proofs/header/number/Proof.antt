@@ -32,8 +32,7 @@ rem-n c = omega arith
 
 add-n : tie.Need-add-n Inv-loop μ-loop
 add-n c =
-    let loop = c .before .before in
-    let start = loop .before in
+    let loop = c .before .before in let start = loop .before in
     let a = start .args in
     let l = loop .loop in
     let p = start .pre in
@@ -52,8 +51,7 @@ loop-less c = omega arith
 
 loop-again : tie.Need-loop-again Inv-loop μ-loop
 loop-again c =
-    let loop = c .before .before in
-    let start = loop .before in
+    let loop = c .before .before in let start = loop .before in
     let a = start .args in
     let l = loop .loop in
     let p = start .pre in (
@@ -65,8 +63,7 @@ loop-again c =
 
 returns : tie.Need-returns Inv-loop μ-loop
 returns c =
-    let a = c .before .before .args in
-    let l = c .before .loop in
+    let a = c .before .before .args in let l = c .before .loop in
     sym (l .inv .2 ∙ number-none (a .base) (l .n) (a .s .now) (l .i) (omega arith))
 
 pub number-spec : {M : Type 1} → statement M

@@ -21,9 +21,7 @@ same-length c = search needs
 
 returns : tie.Need-returns
 returns c =
-    let store-length = c .before .before in
-    let if1 = store-length .before .before in
-    let has-room = if1 .before in
+    let store-length = c .before .before in let if1 = store-length .before .before in let has-room = if1 .before in
     let e = sym (has-room .has-room .ensures) ∙ if1 .if1 .taken in
     stored-put _ _ _ (omega (arith, leb-true)) (store-length .store-length .ensures)
 

@@ -50,16 +50,12 @@ store-digits-requires c κs =
 
 same-length-2 : tie.Need-same-length-2
 same-length-2 c =
-    let store-digits = c .before .before in
-    let length-count = store-digits .before .before in
-    let start = length-count .before .before .before in
+    let store-digits = c .before .before in let length-count = store-digits .before .before in let start = length-count .before .before .before in
     stored-kept (stored-cons {o = start .args .out .now} {b = 0x80 + length-count .length-count .result} (store-digits .store-digits .ensures))
 
 returns-2 : tie.Need-returns-2
 returns-2 c =
-    let store-digits = c .before .before in
-    let length-count = store-digits .before .before in
-    let start = length-count .before .before .before in
+    let store-digits = c .before .before in let length-count = store-digits .before .before in let start = length-count .before .before .before in
     stored-as (length-digits (start .args .n) (length-count .length-count .result) (omega arith) (length-count .length-count .ensures))
     (stored-cons (store-digits .store-digits .ensures))
 

@@ -15,9 +15,7 @@ is-shortest-requires c κs = search needs
 
 shared-slice-read-sign-of : tie.Need-shared-slice-read-sign-of
 shared-slice-read-sign-of c =
-    let if2 = c .before in
-    let is-shortest = if2 .before in
-    let start = is-shortest .before .before .before in
+    let if2 = c .before in let is-shortest = if2 .before in let start = is-shortest .before .before .before in
     omega (arith, shortest-some (start .args .c .now) (sym (is-shortest .is-shortest .ensures) ∙ if2 .if2 .taken))
 
 sign-of-requires : tie.Need-sign-of-requires
@@ -33,9 +31,7 @@ cast-t9 c = search needs
 
 returns-2 : tie.Need-returns-2
 returns-2 c =
-    let sign-of = c .before in
-    let if2 = sign-of .before .before in
-    let is-shortest = if2 .before in
+    let sign-of = c .before in let if2 = sign-of .before .before in let is-shortest = if2 .before in
     integer-read _ _ _ (omega arith) (sym (is-shortest .is-shortest .ensures) ∙ if2 .if2 .taken) (sign-of .sign-of .ensures) (c .number .ensures)
 
 returns-3 : tie.Need-returns-3

@@ -16,9 +16,7 @@ has-room-requires c κs = search needs
 
 store-digits-requires : tie.Need-store-digits-requires
 store-digits-requires c κs =
-    let if1 = c .before in
-    let has-room = if1 .before in
-    let integer-octets = has-room .before in
+    let if1 = c .before in let has-room = if1 .before in let integer-octets = has-room .before in
     let start = integer-octets .before .before in (
       omega (arith, count-within (start .args .w), integer-octets .integer-octets .ensures),
       leb-true _ _
@@ -30,11 +28,8 @@ same-length c = search needs
 
 returns : tie.Need-returns
 returns c =
-    let store-digits = c .before .before in
-    let if1 = store-digits .before .before in
-    let has-room = if1 .before in
-    let integer-octets = has-room .before in
-    let start = integer-octets .before .before in
+    let store-digits = c .before .before in let if1 = store-digits .before .before in let has-room = if1 .before in
+    let integer-octets = has-room .before in let start = integer-octets .before .before in
     let w = start .args .w in
     let n = integer-octets .integer-octets in
     let e = sym (has-room .has-room .ensures) ∙ if1 .if1 .taken in
@@ -43,8 +38,7 @@ returns c =
 
 returns-2 : tie.Need-returns-2
 returns-2 c =
-    let has-room = c .before in
-    let start = has-room .before .before .before in
+    let has-room = c .before in let start = has-room .before .before .before in
     let e = sym (has-room .has-room .ensures) ∙ c .if1 .left in put-not _ _ _ (omega (arith, leb-false, integer-length (start .args .w)))
 
 pub put-integer-spec : {M : Type 1} → statement M

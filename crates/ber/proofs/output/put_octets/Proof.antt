@@ -18,9 +18,7 @@ same-length c = search needs
 
 returns : tie.Need-returns
 returns c =
-    let store-octets = c .before .before in
-    let if1 = store-octets .before .before in
-    let has-room = if1 .before in
+    let store-octets = c .before .before in let if1 = store-octets .before .before in let has-room = if1 .before in
     let e = sym (has-room .has-room .ensures) ∙ if1 .if1 .taken in
     stored-put _ _ _ (omega (arith, leb-true)) (store-octets .store-octets .ensures)
 

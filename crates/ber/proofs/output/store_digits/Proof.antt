@@ -57,8 +57,7 @@ same-length c = c .before .loop .inv .2
 
 returns : tie.Need-returns Inv-loop μ-loop
 returns c =
-    let a = c .before in
-    let s = a .before .before in
+    let a = c .before in let s = a .before .before in
     record {
       octets = sym (a .loop .inv .3 ∙ sets-no-digit (a .loop .out) (a .loop .k) (a .loop .n) (s .args .w) (omega arith));
       next = omega (arith, digits-length (s .args .count) (s .args .w));

@@ -26,9 +26,7 @@ shared-slice-read-if2 c = omega arith
 
 returns : tie.Need-returns Inv-loop μ-loop
 returns c =
-    let if1 = c .before .before in
-    let loop = if1 .before .before in
-    let start = loop .before in
+    let if1 = c .before .before in let loop = if1 .before .before in let start = loop .before in
     let s = start .args .c .now in
     let l = loop .loop in
     sym (l .inv .1 ∙ ap (λ (t : Bool). parts t (drop (l .i) s)) (if1 .if1 .taken) ∙ parts-bad s (l .i) (omega arith) (c .if2 .taken))
@@ -44,9 +42,7 @@ loop-less c = omega arith
 
 loop-again : tie.Need-loop-again Inv-loop μ-loop
 loop-again c =
-    let if1 = c .before in
-    let loop = if1 .before .before in
-    let start = loop .before in
+    let if1 = c .before in let loop = if1 .before .before in let start = loop .before in
     let s = start .args .c .now in
     let l = loop .loop in (
       omega arith,
@@ -56,8 +52,7 @@ loop-again c =
 
 returns-2 : tie.Need-returns-2 Inv-loop μ-loop
 returns-2 c =
-    let a = c .before .before .args in
-    let l = c .before .loop in
+    let a = c .before .before .args in let l = c .before .loop in
     sym (l .inv .1 ∙ parts-end (l .start) (a .c .now) (l .i) (omega arith))
 
 pub is-parts-spec : {M : Type 1} → statement M
