@@ -1,14 +1,12 @@
--- What is written reads back, for all four kinds, within the octets and levels of an APDU.
-use Prim.Native.Nat.{ℕ, zero, suc, _+_, _-_, _^_, _≤_, _<_}
-use mathlib.Core.Path.{_≡_, refl, sym, ap, _∙_, subst}
-use mathlib.Core.Bool.{Bool, true, false, cond}
+-- What is written reads back, for an Invoke, a Result and an Error, within the octets and levels of an APDU.
+use Prim.Native.Nat.{ℕ, suc, _-_, _^_, _≤_, _<_}
+use mathlib.Core.Path.{_≡_, refl, sym, ap, _∙_}
+use mathlib.Core.Bool.{Bool, true, cond}
 use mathlib.Core.List.{List, [], _∷_, _++_, append-nil, map}
 use mathlib.Core.Option.{Option, some, none}
 use native.Mathlib.Omega.{arith}
 use lib.ListN.{length, length-append}
-use lib.Dec.{eqb, leb}
-use borrow.Author.Tests.{leb-true}
-use Rattle.base.proofs.Tests.{and-left, and-right}
+use lib.Dec.{eqb}
 use Rattle.records.specs.declared.Code.{Code}
 use Rattle.records.specs.Limits.{octets, levels}
 use Rattle.ber.specs.Header.{oneOf}
@@ -19,10 +17,9 @@ use Rattle.apdu.specs.declared.Number.{Number}
 use Rattle.apdu.specs.declared.Number.the-variants.{Of, Absent}
 use Rattle.apdu.specs.declared.CodeField.the-variants.{Local}
 use Rattle.apdu.specs.Field.{Field, fields}
-use Rattle.apdu.specs.Parse.{CodedValue, invoke, result, error, reject, numberUnder, idOf, coded, codedOf, linked, unlinked, linkedWith, linkedOf, invokeWith, invokeOf, resultWith, resultOf, errorOf, isProblem, idAllowed, rejectWith, rejectBehind, rejectOf, behindId, withId, byKind, parseAt, parse}
-use Rattle.apdu.specs.Encode.{integerField, linkedField, rejectedField, bodyField, codedFields, encodeInvoke, encodeResult, encodeError, encodeReject}
+use Rattle.apdu.specs.Parse.{CodedValue, invoke, result, error, numberUnder, coded, codedOf, linked, unlinked, linkedWith, linkedOf, invokeWith, invokeOf, resultWith, resultOf, errorOf, behindId, withId, byKind, parseAt, parse}
+use Rattle.apdu.specs.Encode.{integerField, linkedField, bodyField, codedFields, encodeInvoke, encodeResult, encodeError}
 use Rattle.apdu.proofs.FieldLaws.{concat, AllWell, contents-concat, fieldOf, fields-concat, header-alone, part-alone, field-octets, octets-well-formed}
-use Rattle.apdu.proofs.SizeLaws.{reject-most}
 use Rattle.apdu.proofs.FieldRoundTrip.{NumberFits, ValueFits, valueList, value-well, value-concat, coded-back, integer-under, number-back, id-well, linked-well, id-back, id-under}
 
 -- an identifier of one octet under which all contents are right
@@ -130,74 +127,3 @@ parse-result i c (some v) si sc f h =
     ap (λ (l : List ℕ). parse (elementOctets 0xA2 l)) (sym e)
     ∙ parse-fields 0xA2 es (record { one = refl; rule = λ _. refl }) refl (id-well i si 14, (body-well c v sc f n, tt)) (rw e h)
     ∙ rw (id-back i si) (body-result c v sc f n i)
-
--- ---- A4
-
-null-back : fieldOf (elementOctets 0x05 []) ≡ record { identifier = 0x05; contents = []; whole = elementOctets 0x05 [] }
-unfolding oneOf
-null-back = field-octets 0x05 [] refl (omega arith)
-
-null-well : (d : ℕ) → wellFormed (suc d) (elementOctets 0x05 []) ≡ true
-unfolding oneOf contentRule constructed
-null-well d = octets-well-formed 0x05 [] refl (omega arith) d refl refl
-
-rejected-well : (i : Number) → NumberFits i → (d : ℕ) → wellFormed (suc d) (rejectedField i) ≡ true
-unfolding rejectedField
-rejected-well Absent s d = null-well d
-rejected-well (Of i) s d = id-well i s d
-
-rejected-back : (i : Number) → NumberFits i → idOf (fieldOf (rejectedField i)) ≡ i
-unfolding rejectedField numberUnder
-rejected-back Absent s = rw null-back
-rejected-back (Of i) s = id-back i s
-
-rejected-allowed : (i : Number) (k : ℕ) → idAllowed i 0x05 k ≡ true → idAllowed i (fieldOf (rejectedField i) .identifier) k ≡ true
-unfolding rejectedField idAllowed
-rejected-allowed Absent k e = rw null-back e
-rejected-allowed (Of i) k e = refl
-
--- 80 to 83, as identifiers
-record ProblemKind (k : ℕ) : Type 0 where
-  free : Free k
-  plain : constructed k ≡ false
-
-problem-kind : (k j : ℕ) → j ≤ 3 → k ≡ 0x80 + j → ProblemKind k
-unfolding oneOf contentRule constructed
-problem-kind k j h e = subst ProblemKind (sym e) (go j h)
-  where
-    go : (n : ℕ) → n ≤ 3 → ProblemKind (0x80 + n)
-    go zero l = record { free = record { one = refl; rule = λ _. refl }; plain = refl }
-    go (suc zero) l = record { free = record { one = refl; rule = λ _. refl }; plain = refl }
-    go (suc (suc zero)) l = record { free = record { one = refl; rule = λ _. refl }; plain = refl }
-    go (suc (suc (suc zero))) l = record { free = record { one = refl; rule = λ _. refl }; plain = refl }
-    go (suc (suc (suc (suc n)))) l = absurd (omega arith)
-
-module _ (k p : ℕ) (e : isProblem k (p ∷ []) ≡ true) where
-  problem-bounds : (0x80 ≤ k) × (k ≤ 0x83)
-  unfolding isProblem
-  problem-bounds = (leb-true 0x80 k (and-left (leb 0x80 k) _ e), leb-true k 0x83 (and-left (leb k 0x83) _ (and-right (leb 0x80 k) _ e)))
-
-  known : ProblemKind k
-  known = problem-kind k (k - 0x80) (omega (arith, problem-bounds)) (omega (arith, problem-bounds))
-
-  problem-is : fieldOf (elementOctets k (p ∷ [])) ≡ record { identifier = k; contents = p ∷ []; whole = elementOctets k (p ∷ []) }
-  problem-is = field-octets k (p ∷ []) (known .free .one) (omega arith)
-
-  problem-well : wellFormed 15 (elementOctets k (p ∷ [])) ≡ true
-  problem-well =
-      octets-well-formed k (p ∷ []) (known .free .one) (omega arith) 14 (known .free .rule (p ∷ []))
-      (ap (λ (b : Bool). cond b (contentsOf 14 (p ∷ [])) true) (known .plain))
-
-  reject-fields : (i : Number) → NumberFits i → idAllowed i 0x05 k ≡ true → byKind 0xA4 (map fieldOf (rejectedField i ∷ elementOctets k (p ∷ []) ∷ [])) ≡ reject i k p
-  unfolding byKind rejectOf rejectBehind rejectWith
-  reject-fields i s a = rw (problem-is, e, rejected-back i s, rejected-allowed i k a)
-
--- the problem is right for its kind, and 05 00 stands only with 80
-pub parse-reject : (i : Number) (k p : ℕ) → NumberFits i → isProblem k (p ∷ []) ≡ true → idAllowed i 0x05 k ≡ true → parse (encodeReject i k p) ≡ reject i k p
-unfolding encodeReject oneOf contentRule constructed
-parse-reject i k p s e a =
-    let es = rejectedField i ∷ elementOctets k (p ∷ []) ∷ [] in
-    let q : concat es ≡ rejectedField i ++ elementOctets k (p ∷ []) = ap (λ (l : List ℕ). rejectedField i ++ l) (append-nil (elementOctets k (p ∷ []))) in
-    ap (λ (l : List ℕ). parse (elementOctets 0xA4 l)) (sym q)
-    ∙ parse-fields 0xA4 es (record { one = refl; rule = λ _. refl }) refl (rejected-well i s 14, (problem-well k p e, tt)) (rw q (omega (arith, reject-most i k p)))
-    ∙ reject-fields k p e i s a
