@@ -28,7 +28,8 @@ use Rattle.protocol.specs.Book.{among, kiosk, Given, World}
 use Rattle.protocol.specs.Demand3.{isLive, Listed, unlistedProblem, AnswerClaim, Reaches}
 use Rattle.protocol.proofs.Checks.{Pass, pass, accepted-passes}
 use Rattle.protocol.proofs.Ids.{member-among, in-code}
-use Rattle.protocol.proofs.Steady.{covered-in, steady-sound, steady-usable}
+use Rattle.protocol.proofs.Coverage.{covered-in}
+use Rattle.protocol.proofs.Steady.{steady-sound, steady-usable}
 use Rattle.protocol.proofs.Invariant.{ToldResult, ToldError, Told, Inv}
 use Rattle.protocol.proofs.Claims.{body-value, same-code}
 

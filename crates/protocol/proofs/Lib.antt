@@ -2,6 +2,7 @@
 mod Marked
 pub mod Checks
 mod Ids
+mod Coverage
 pub mod Steady
 mod Invariant
 mod Keeping

@@ -2,8 +2,7 @@
 use Prim.Native.Nat.{ℕ, _<_}
 use mathlib.Core.Path.{_≡_, refl, ap, _∙_}
 use mathlib.Core.Bool.{Bool, true, false, not, _&&_}
-use mathlib.Core.List.{List, [], _∷_, _++_, List·Memᴰ as In, List·Memᴰ·cases-cons as in-cons, List·Memᴰ·not-nil as in-nil}
-use mathlib.Core.Logic.{_⊎_, inl, inr}
+use mathlib.Core.List.{List, [], _∷_}
 use lib.ListN.{length, getD}
 use native.Mathlib.Omega.{arith}
 use lib.Dec.{eqb}
@@ -14,7 +13,7 @@ use Rattle.records.specs.declared.Record.{Record}
 use Rattle.records.specs.declared.Records.{Records}
 use Rattle.records.specs.declared.State.{State}
 use Rattle.records.specs.Limits.{records}
-use Rattle.records.specs.Records.{view, member, without, added, retired}
+use Rattle.records.specs.Records.{view, member, added, retired}
 use Rattle.records.specs.State.{fresh, soundState, addOwn, addPeer, retireOwn, retirePeer}
 use Rattle.records.proofs.Soundness.{Sound, SoundBoth, view-retired, view-added, added-is-sound, retired-is-sound, fresh-is-sound, sound-state}
 use Rattle.optable.specs.Validity.{valid}
@@ -30,28 +29,9 @@ use Rattle.protocol.specs.Receive.{fieldCode, isOperation, fault, invoke
 use Rattle.protocol.specs.Perform.{laterChecks, checks, done, perform, withOwn}
 use Rattle.protocol.specs.End.{gives, Fit, EachFit}
 use Rattle.protocol.proofs.Checks.{Pass, settle, never-given, avoids}
-
--- ---- the table has the records' codes
+use Rattle.protocol.proofs.Coverage.{covered-without, covered-added}
 
 module _ (T : List ℕ) where
-  pub covered-in : (r : Record) (l : List Record) → covered T l ≡ true → In r l → listed (operationOf T (r .code)) ≡ true
-  covered-in r [] h m = absurd (in-nil m)
-  covered-in r (x ∷ l) h m = go (covered-in r l (and-right (listed (operationOf T (x .code))) _ h)) (in-cons m)
-    where
-      go : (In r l → listed (operationOf T (r .code)) ≡ true) → (r ≡ x) ⊎ In r l → listed (operationOf T (r .code)) ≡ true
-      go ih (inl e) = rw e (and-left _ _ h)
-      go ih (inr m) = ih m
-
-  covered-without : (i : ℕ) (l : List Record) → covered T l ≡ true → covered T (without i l) ≡ true
-  covered-without i [] h = refl
-  covered-without i (r ∷ l) h =
-      let rest = covered-without i l (and-right (listed (operationOf T (r .code))) _ h) in
-      cond-elim (λ (m : List Record). covered T m ≡ true) (eqb (r .id) i) (without i l) (r ∷ without i l) (λ _. rest) (λ _. and-true {a = listed (operationOf T (r .code))} {b = covered T (without i l)} (and-left _ _ h) rest)
-
-  covered-added : (r : Record) (l : List Record) → covered T l ≡ true → listed (operationOf T (r .code)) ≡ true → covered T (l ++ (r ∷ [])) ≡ true
-  covered-added r [] h k = and-true {a = listed (operationOf T (r .code))} {b = true} k refl
-  covered-added r (x ∷ l) h k = and-true {a = listed (operationOf T (x .code))} {b = covered T (l ++ (r ∷ []))} (and-left _ _ h) (covered-added r l (and-right (listed (operationOf T (x .code))) _ h) k)
-
   -- ---- one side
 
   pub record SteadySide (d : Records) : Type 0 where
@@ -61,13 +41,13 @@ module _ (T : List ℕ) where
   side-retired : {d : Records} (i : ℕ) → SteadySide d → SteadySide (retired d i)
   side-retired {d} i h = record {
     sound = retired-is-sound (h .sound) i;
-    known = ap (covered T) (view-retired d i) ∙ covered-without i (view d) (h .known);
+    known = ap (covered T) (view-retired d i) ∙ covered-without T i (view d) (h .known);
   }
 
   side-added : {d : Records} (r : Record) → member (r .id) (view d) ≡ false → listed (operationOf T (r .code)) ≡ true → length (view d) < records → SteadySide d → SteadySide (added d r)
   side-added {d} r new known room h = record {
     sound = added-is-sound (h .sound) r room new;
-    known = ap (covered T) (view-added (h .sound) r room) ∙ covered-added r (view d) (h .known) known;
+    known = ap (covered T) (view-added (h .sound) r room) ∙ covered-added T r (view d) (h .known) known;
   }
 
   -- a side has room where a call that makes a record was not refused for it
