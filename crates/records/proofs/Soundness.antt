@@ -6,7 +6,7 @@ use mathlib.Core.Bool.{true, false, _&&_}
 use mathlib.Core.List.{List, [], _∷_, _++_, append-assoc}
 use borrow.Author.Tests.{eqb-true, lt-ltb, le-leb, leb-true}
 use lib.Dec.{eqb, leb}
-use lib.ListN.{length, drop, replicate, length-append, length-take, length-drop, take-append-drop}
+use lib.ListN.{length, drop, set, replicate, length-append, length-take, length-drop, take-append-drop}
 use lib.Seq.{set-append-seam, take-append-seam, drop-append-seam, length-take-le}
 use Rattle.base.proofs.Tests.{and-true, and-left, and-right}
 use Rattle.records.specs.declared.Record.{Record}
@@ -25,10 +25,14 @@ view-pack l = take-append-seam l (replicate (records - length l) unused)
 one-less : (k : ℕ) → k < records → records - k ≡ suc (records - (k + 1))
 one-less k p = omega arith
 
-pub added-pack : (l : List Record) (r : Record) → length l < records → added (pack l) r ≡ pack (l ++ r ∷ [])
-added-pack l r p =
+-- a record put behind the live ones
+abbrev pub placed : Records → Record → Records
+placed s r = record { count = s .count + 1; places = set (s .places) (s .count) r }
+
+pub placed-pack : (l : List Record) (r : Record) → length l < records → placed (pack l) r ≡ pack (l ++ r ∷ [])
+placed-pack l r p =
     let e = one-less (length l) p in
-    simp (lt-ltb _ _ p, e, set-append-seam, length-append, append-assoc)
+    simp (e, set-append-seam, length-append, append-assoc)
 
 pub retired-pack : (l : List Record) (n : ℕ) → retired (pack l) n ≡ pack (without n l)
 retired-pack l n = rw view-pack
@@ -102,7 +106,7 @@ packed-is-sound l few once =
 module _ {s : Records} (h : Sound s) where
   -- the new record goes last
   pub added-is-packed : (r : Record) → length (view s) < records → added s r ≡ pack (view s ++ r ∷ [])
-  added-is-packed r room = ap (λ (t : Records). added t r) (h .packed) ∙ added-pack (view s) r room
+  added-is-packed r room = ap (λ (t : Records). added t r) (h .packed) ∙ simp (lt-ltb _ _ room) (placed-pack (view s) r room)
 
   pub view-added : (r : Record) → length (view s) < records → view (added s r) ≡ view s ++ r ∷ []
   view-added r room = ap view (added-is-packed r room) ∙ view-pack (view s ++ r ∷ [])

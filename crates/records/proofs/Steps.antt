@@ -2,7 +2,7 @@
 use Prim.Native.Nat.{ℕ, _+_, _≤_, _<_}
 use native.Mathlib.Numerals.{add-one}
 use native.Mathlib.Omega.{arith}
-use mathlib.Core.Path.{_≡_, sym, _∙_}
+use mathlib.Core.Path.{_≡_, sym, subst, _∙_}
 use mathlib.Core.Bool.{Bool, true, false, not, _&&_}
 use mathlib.Core.List.{List, [], _∷_, _++_, map, append-nil}
 use borrow.Author.Tests.{eq-eqb, ne-eqb}
@@ -12,9 +12,9 @@ use Rattle.records.specs.declared.Record.{Record}
 use Rattle.records.specs.declared.Records.{Records}
 use Rattle.records.specs.declared.Found.the-variants.{Operation}
 use Rattle.records.specs.Limits.{records}
-use Rattle.records.specs.Records.{sameCode, unused, view, pack, lookup, member, without, distinct, blank, added, soundRecords, SideAnswer}
-use Rattle.records.proofs.Laws.{without-append, without-shorter}
-use Rattle.records.proofs.Soundness.{added-pack, sound-is-packed}
+use Rattle.records.specs.Records.{sameCode, unused, view, pack, lookup, member, without, distinct, blank, soundRecords, SideAnswer}
+use Rattle.records.proofs.Laws.{without-append}
+use Rattle.records.proofs.Soundness.{placed, placed-pack, sound-is-packed}
 
 -- what owning an array of structs tells of its length is told of the mapped list
 pub unmapped : {X Y : Type 0} (f : X → Y) (l : List X) (n : ℕ) → length (map f l) ≡ n → length l ≡ n
@@ -79,10 +79,11 @@ module _ (s : Records) (i : ℕ) (p : i < length (view s)) where
     kept-at : (getD (s .places) i unused .id ≡ n → ⊥) → without n (take (i + 1) (view s)) ≡ without n (take i (view s)) ++ getD (s .places) i unused ∷ []
     kept-at h = rw (taken-at, without-append) (simp (ne-eqb _ _ h))
 
-    pub kept-step : (k : Records) → length (view s) ≤ records → k ≡ pack (without n (take i (view s))) → (getD (s .places) i unused .id ≡ n → ⊥) → added k (getD (s .places) i unused) ≡ pack (without n (take (i + 1) (view s)))
-    kept-step k q e h =
-        let few : length (without n (take i (view s))) < records = omega (arith, without-shorter n (take i (view s)), length-take i (view s)) in
-        rw (e, kept-at h) (added-pack (without n (take i (view s))) (getD (s .places) i unused) few)
+    pub kept-step : (k : Records) → k .count < records → k ≡ pack (without n (take i (view s))) → (getD (s .places) i unused .id ≡ n → ⊥)
+        → placed k (getD (s .places) i unused) ≡ pack (without n (take (i + 1) (view s)))
+    kept-step k room e h =
+        let few : length (without n (take i (view s))) < records = subst (λ (t : Records). t .count < records) e room in
+        rw (e, kept-at h) (placed-pack (without n (take i (view s))) (getD (s .places) i unused) few)
 
 -- ---- soundness
 pub side-answer : (s : Records) (r : Bool) → length (s .places) ≡ records → r ≡ soundRecords s → SideAnswer s r

@@ -164,15 +164,24 @@ impl Records {
         ensures { λ r. ⌜ r ≡ retired self id ⌝ }
     {
         let n = self.live();
-        let mut kept = Records::fresh();
+        let unused = Record {
+            id: 0,
+            code: Code(0),
+        };
+        let mut places = [unused; State::RECORDS];
+        let mut kept: usize = 0;
         let mut i: usize = 0;
         while i < n {
             let r = self.places[i];
             if r.id != id {
-                kept = kept.add(r);
+                places[kept] = r;
+                kept += 1;
             }
             i += 1;
         }
-        kept
+        Records {
+            count: kept,
+            places,
+        }
     }
 }
