@@ -52,7 +52,7 @@ unfolding elementOf
 element-within zero s = tt
 element-within (suc d) s = with-within (contentsOf d) s (headerOf s) (header-bounded s)
 
-pub good-bounds : (d : ℕ) (s : List ℕ) (n : ℕ) → elementOf d s ≡ Good n → (2 ≤ n) × (n ≤ length s)
+good-bounds : (d : ℕ) (s : List ℕ) (n : ℕ) → elementOf d s ≡ Good n → (2 ≤ n) × (n ≤ length s)
 good-bounds d s n p = subst (CheckedWithin (length s)) p (element-within d s)
 
 pub element-bounds : (d : ℕ) (s : List ℕ) (n : ℕ) → size d s ≡ some n → (2 ≤ n) × (n ≤ length s)

@@ -3,8 +3,9 @@ use crate::header::Header;
 use crate::header::header_of;
 use crate::rule::content_rule;
 ghost use mathlib.Core.Path.{_≡_};
-ghost use Prim.Native.Nat.{ℕ, _≤_};
-ghost use Rattle.ber.specs.Element.{elementOf, contentsOf, wellFormed};
+ghost use mathlib.Core.Bool.{true, cond, _&&_};
+ghost use Rattle.ber.specs.Rule.{contentRule};
+ghost use Rattle.ber.specs.Element.{constructed, elementOf, contentsOf, wellFormed};
 
 // What a check finds at the front of octets: an element of so many octets, or a fault.
 pub enum Checked {
@@ -22,43 +23,28 @@ pub fn element(s: &[u8], levels: usize) -> Checked
     match header_of(s) {
         Header::NoHeader => Checked::Fault,
         Header::At { id, start, end } => {
-            let c = &s[start..end];
-            if content_rule(id, c) {
-                if id / 32 % 2 == 1 {
-                    if contents(c, levels - 1) {
-                        Checked::Good { len: end }
-                    } else {
-                        Checked::Fault
-                    }
-                } else {
-                    Checked::Good { len: end }
-                }
-            } else {
-                Checked::Fault
+            if is_element(id, &s[start..end], levels - 1) {
+                return Checked::Good { len: end };
             }
+            Checked::Fault
         }
     }
 }
 
-// How many octets the element at the front of s takes, if it is primitive and right, else 0.
-fn primitive(s: &[u8]) -> usize
-    ensures { λ r. ⌜ ((d : ℕ) → 1 ≤ d → 1 ≤ r → Checked.Good r ≡ elementOf d (now (s .entry))) ⌝ }
+// Whether contents make an element under an identifier, with so many levels below it.
+fn is_element(id: u8, c: &[u8], levels: usize) -> bool
+    ensures { λ r. ⌜ r ≡ (contentRule id (now (c .entry)) && cond (constructed id) (contentsOf levels (now (c .entry))) true) ⌝ }
 {
-    match header_of(s) {
-        Header::NoHeader => 0,
-        Header::At { id, start, end } => {
-            if id / 32 % 2 == 1 {
-                return 0;
-            }
-            if content_rule(id, &s[start..end]) {
-                return end;
-            }
-            0
-        }
+    if !content_rule(id, c) {
+        return false;
     }
+    if id / 32 % 2 == 1 {
+        return contents(c, levels);
+    }
+    true
 }
 
-// All of s is elements, end to end. The loop keeps the stack to two calls a level, and primitive elements to none.
+// All of s is elements, end to end. The loop keeps the stack to two calls a level, and a primitive element takes none but that of its rule.
 pub fn contents(s: &[u8], levels: usize) -> bool
     ensures { λ r. ⌜ r ≡ contentsOf levels (now (s .entry)) ⌝ }
 {
@@ -67,17 +53,21 @@ pub fn contents(s: &[u8], levels: usize) -> bool
     }
     let mut at = 0;
     while at < s.len() {
-        let n = primitive(&s[at..]);
-        if n > 0 {
-            at += n;
-        } else {
-            match element(&s[at..], levels) {
-                Checked::Fault => {
+        let t = &s[at..];
+        match header_of(t) {
+            Header::NoHeader => {
+                return false;
+            }
+            Header::At { id, start, end } => {
+                let c = &t[start..end];
+                if id / 32 % 2 == 1 {
+                    if !is_element(id, c, levels - 1) {
+                        return false;
+                    }
+                } else if !content_rule(id, c) {
                     return false;
                 }
-                Checked::Good { len } => {
-                    at += len;
-                }
+                at += end;
             }
         }
     }

@@ -1,0 +1,69 @@
+-- The element that the header says and its contents make; each way out is one answer of the check.
+use mathlib.Core.Path.{sym, _∙_}
+use native.Mathlib.Omega.{arith}
+use borrow.Author.Needs.{needs}
+use Rattle.ber.proofs.HeaderLaws.{header-bounds}
+use Rattle.ber.proofs.ElementAnswers.{element-no-level, element-no-header, element-good, element-fault}
+use Rattle.ber.proofs.element.element.Statement.{statement}
+use Rattle.ber.proofs.element.element.Tie as tie
+
+returns : tie.Need-returns
+returns c = element-no-level _ _ (c .if1 .taken)
+
+header-of-requires : tie.Need-header-of-requires
+header-of-requires c κs = search needs
+
+enum-told : tie.Need-enum-told
+enum-told c = search needs
+
+enum-known-id : tie.Need-enum-known-id
+enum-known-id c = search needs
+
+sub-is-element : tie.Need-sub-is-element
+sub-is-element c = omega (arith, header-bounds _ _ _ _ (sym (c .before .before .before .header-of .ensures) ∙ c .before .id .given .1))
+
+part-is-element-start : tie.Need-part-is-element-start
+part-is-element-start c = omega (arith, header-bounds _ _ _ _ (sym (c .before .before .before .header-of .ensures) ∙ c .before .id .given .1))
+
+part-is-element-end : tie.Need-part-is-element-end
+part-is-element-end c = omega (arith, header-bounds _ _ _ _ (sym (c .before .before .before .header-of .ensures) ∙ c .before .id .given .1))
+
+sub-is-element-2 : tie.Need-sub-is-element-2
+sub-is-element-2 c = search needs
+
+is-element-requires : tie.Need-is-element-requires
+is-element-requires c κs = search needs
+
+returns-2 : tie.Need-returns-2
+returns-2 c =
+    let is-element = c .before in let id = is-element .before .before .before in let header-of = id .before .before in
+    element-good _ _ (header-of .before .if1 .left) _ _ _ (sym (header-of .header-of .ensures) ∙ id .id .given .1)
+    (sym (is-element .is-element .ensures) ∙ c .if2 .taken)
+
+returns-3 : tie.Need-returns-3
+returns-3 c =
+    let header-of = c .before .before in
+    element-no-header _ _ (header-of .before .if1 .left) (sym (header-of .header-of .ensures) ∙ c .enum-told .given .1)
+
+returns-4 : tie.Need-returns-4
+returns-4 c =
+    let is-element = c .before in let id = is-element .before .before .before in let header-of = id .before .before in
+    element-fault _ _ (header-of .before .if1 .left) _ _ _ (sym (header-of .header-of .ensures) ∙ id .id .given .1)
+    (sym (is-element .is-element .ensures) ∙ c .if2 .left)
+
+pub element-spec : {M : Type 1} → statement M
+element-spec =
+    tie.close
+    (tie.spec
+    returns
+    header-of-requires
+    enum-told
+    enum-known-id
+    sub-is-element
+    part-is-element-start
+    part-is-element-end
+    sub-is-element-2
+    is-element-requires
+    returns-2
+    returns-3
+    returns-4)
