@@ -1,18 +1,21 @@
 -- One turn of each loop over the places of a side: what stands at i is the first of what is left.
-use Prim.Native.Nat.{ℕ, _+_, _≤_, _<_}
+use Prim.Native.Nat.{ℕ, _+_, _*_, _≤_, _<_}
 use native.Mathlib.Numerals.{add-one}
 use native.Mathlib.Omega.{arith}
-use mathlib.Core.Path.{_≡_, sym, subst, _∙_}
+use mathlib.Core.Path.{_≡_, refl, sym, subst, _∙_}
 use mathlib.Core.Bool.{Bool, true, false, not, _&&_}
 use mathlib.Core.List.{List, [], _∷_, _++_, map, append-nil}
-use borrow.Author.Tests.{eq-eqb, ne-eqb}
+use borrow.Author.Tests.{eq-eqb, ne-eqb, eqb-true, eqb-false}
+use lib.Dec.{eqb}
+use lib.Bits.{bitOr, or-add-and, and-le-l, and-le-r}
+use Rattle.base.proofs.Tests.{and-assoc}
 use lib.ListN.{length, take, drop, getD, length-map, length-take, drop-of-length-le}
 use lib.Seq.{drop-cons, take-suc, getD-take}
 use Rattle.records.specs.declared.Record.{Record}
 use Rattle.records.specs.declared.Records.{Records}
 use Rattle.records.specs.declared.Found.the-variants.{Operation}
 use Rattle.records.specs.Limits.{records}
-use Rattle.records.specs.Records.{sameCode, unused, view, pack, lookup, member, without, distinct, blank, soundRecords, SideAnswer}
+use Rattle.records.specs.Records.{unused, view, pack, lookup, member, without, distinct, blank, soundRecords, SideAnswer}
 use Rattle.records.proofs.Laws.{without-append}
 use Rattle.records.proofs.Soundness.{placed, placed-pack, sound-is-packed}
 
@@ -21,18 +24,30 @@ pub unmapped : {X Y : Type 0} (f : X → Y) (l : List X) (n : ℕ) → length (m
 unmapped f l n p = sym (length-map l f) ∙ p
 
 -- ---- whether the places from i on are unused
+
+no-bit : (a b : ℕ) → eqb (bitOr a b) 0 ≡ (eqb a 0 && eqb b 0)
+no-bit a b = go (eqb a 0) refl (eqb b 0) refl
+  where
+    go : (x : Bool) → eqb a 0 ≡ x → (y : Bool) → eqb b 0 ≡ y → eqb (bitOr a b) 0 ≡ (x && y)
+    go true e true f = rw (eqb-true a 0 e, eqb-true b 0 f) refl
+    go true e false f = ne-eqb (bitOr a b) 0 (λ z. eqb-false b 0 f (omega (arith, z, or-add-and a b, and-le-l a b)))
+    go false e y f = ne-eqb (bitOr a b) 0 (λ z. eqb-false a 0 e (omega (arith, z, or-add-and a b, and-le-r a b)))
+
+no-bit-of-two : (a b : ℕ) → eqb (b * 4294967296 + a) 0 ≡ (eqb a 0 && eqb b 0)
+no-bit-of-two a b = go (eqb a 0) refl (eqb b 0) refl
+  where
+    go : (x : Bool) → eqb a 0 ≡ x → (y : Bool) → eqb b 0 ≡ y → eqb (b * 4294967296 + a) 0 ≡ (x && y)
+    go true e true f = eq-eqb (b * 4294967296 + a) 0 (omega (arith, eqb-true a 0 e, eqb-true b 0 f))
+    go true e false f = ne-eqb (b * 4294967296 + a) 0 (λ z. eqb-false b 0 f (omega (arith, z)))
+    go false e y f = ne-eqb (b * 4294967296 + a) 0 (λ z. eqb-false a 0 e (omega (arith, z)))
+
 module _ (l : List Record) (i : ℕ) (p : i < length l) where
   place-at : drop i l ≡ getD l i unused ∷ drop (i + 1) l
   place-at = rw (add-one, drop-cons l i unused)
 
-  pub blank-id : (getD l i unused .id ≡ 0 → ⊥) → blank (drop i l) ≡ false
-  blank-id h = rw place-at (simp (ne-eqb _ _ h))
-
-  pub blank-code : getD l i unused .id ≡ 0 → sameCode (getD l i unused .code) (unused .code) ≡ false → blank (drop i l) ≡ false
-  blank-code g h = rw place-at (simp (eq-eqb _ _ g, h))
-
-  pub blank-passed : getD l i unused .id ≡ 0 → sameCode (getD l i unused .code) (unused .code) ≡ true → blank (drop i l) ≡ blank (drop (i + 1) l)
-  blank-passed g h = rw place-at (simp (eq-eqb _ _ g, h))
+  -- the places from i on are unused, as far as the octets that were read before have no bit set
+  pub blank-step : (used : ℕ) → (eqb used 0 && blank (drop i l)) ≡ (eqb (bitOr used (getD l i unused .code .0 * 4294967296 + getD l i unused .id)) 0 && blank (drop (i + 1) l))
+  blank-step used = rw (place-at, no-bit used (getD l i unused .code .0 * 4294967296 + getD l i unused .id), no-bit-of-two (getD l i unused .id) (getD l i unused .code .0), and-assoc (eqb used 0) _ (blank (drop (i + 1) l))) refl
 
 -- ---- the live record at i, and what is left behind it
 pub member-none : (n : ℕ) (l : List Record) (i : ℕ) → length l ≤ i → member n (drop i l) ≡ false

@@ -1,21 +1,24 @@
--- The invariant: the places from i on decide whether all are unused. The measure: places left.
+-- The invariant: all are unused just where no bit was set before i and the places from i on are unused. The measure: places left.
 use borrow.Author.Needs.{needs}
 use native.Mathlib.Omega.{arith}
 use Prim.Native.Nat.{_-_}
 use mathlib.Core.Path.{_≡_, refl, sym, _∙_}
-use borrow.Author.Tests.{not-true, not-false}
+use mathlib.Core.Bool.{_&&_}
 use lib.ListN.{length, drop, drop-of-length-le}
+use lib.Dec.{eqb}
+use Rattle.base.proofs.Tests.{and-true-right}
 use Rattle.records.specs.Limits.{records}
 use Rattle.records.specs.Records.{blank}
-use Rattle.records.proofs.Steps.{unmapped, blank-id, blank-code, blank-passed}
+use Rattle.records.proofs.Steps.{unmapped, blank-step}
 use Rattle.records.proofs.Records.blank.Statement.{statement}
 use Rattle.records.proofs.Records.blank.Tie as tie
 
 abbrev Inv-loop : tie.InvT-loop
-Inv-loop self i₀ i = (length (self .places) ≡ records) × (blank (drop (self .count) (self .places)) ≡ blank (drop i (self .places)))
+Inv-loop self used₀ i₀ used i =
+    (length (self .places) ≡ records) × (blank (drop (self .count) (self .places)) ≡ (eqb used 0 && blank (drop i (self .places))))
 
 abbrev μ-loop : tie.MeasureT-loop
-μ-loop self i₀ i = records - i
+μ-loop self used₀ i₀ used i = records - i
 
 loop-holds : tie.Need-loop-holds Inv-loop μ-loop
 loop-holds c = (search (needs, unmapped), refl)
@@ -26,22 +29,17 @@ mul-place c = omega arith
 element-copy-out-place : tie.Need-element-copy-out-place Inv-loop μ-loop
 element-copy-out-place c = omega arith
 
-returns : tie.Need-returns Inv-loop μ-loop
-returns c =
-    let a = c .before .before .before .before in
-    let l = a .before .args .t1 .places in
-    sym (a .loop .inv .1 ∙ blank-id l (a .loop .i) (omega arith) (c .if1 .taken))
+cast-used : tie.Need-cast-used Inv-loop μ-loop
+cast-used c = search needs
 
-same-requires : tie.Need-same-requires Inv-loop μ-loop
-same-requires c κs = search needs
+mul-used : tie.Need-mul-used Inv-loop μ-loop
+mul-used c = search needs
 
-returns-2 : tie.Need-returns-2 Inv-loop μ-loop
-returns-2 c =
-    let same = c .before in
-    let read = same .before .before in
-    let a = read .before .before .before .before in
-    let l = a .before .args .t1 .places in
-    sym (a .loop .inv .1 ∙ blank-code l (a .loop .i) (omega arith) (read .if1 .left) (sym (same .same .ensures) ∙ not-true _ (c .if2 .taken)))
+cast-used-2 : tie.Need-cast-used-2 Inv-loop μ-loop
+cast-used-2 c = search needs
+
+add-used : tie.Need-add-used Inv-loop μ-loop
+add-used c = search needs
 
 add-i : tie.Need-add-i Inv-loop μ-loop
 add-i c = omega arith
@@ -51,18 +49,13 @@ loop-less c = omega arith
 
 loop-again : tie.Need-loop-again Inv-loop μ-loop
 loop-again c =
-    let same = c .before in
-    let read = same .before .before in
-    let a = read .before .before .before .before in
-    let l = a .before .args .t1 .places in
-    let rest = blank-passed l (a .loop .i) (omega arith) (read .if1 .left) (sym (same .same .ensures) ∙ not-false _ (c .if2 .left)) in
-    (a .loop .inv .0, a .loop .inv .1 ∙ rest)
+    let a = c .before .before .before .before .before in
+    (a .loop .inv .0, a .loop .inv .1 ∙ blank-step (a .before .args .t1 .places) (a .loop .i) (omega arith) (a .loop .used))
 
-returns-3 : tie.Need-returns-3 Inv-loop μ-loop
-returns-3 c =
+returns : tie.Need-returns Inv-loop μ-loop
+returns c =
     let a = c .before in
-    let l = a .before .args .t1 .places in
-    rw (a .loop .inv .1, drop-of-length-le l {i = a .loop .i} (omega arith))
+    sym (a .loop .inv .1 ∙ rw (drop-of-length-le (a .before .args .t1 .places) {i = a .loop .i} (omega arith)) (and-true-right (eqb (a .loop .used) 0)))
 
 pub blank-spec : {M : Type 1} → statement M
 blank-spec =
@@ -73,10 +66,11 @@ blank-spec =
     loop-holds
     mul-place
     element-copy-out-place
-    returns
-    same-requires
-    returns-2
+    cast-used
+    mul-used
+    cast-used-2
+    add-used
     add-i
     loop-less
     loop-again
-    returns-3)
+    returns)

@@ -29,8 +29,7 @@ element-copy-out-r c = omega arith
 
 returns : tie.Need-returns Inv-loop μ-loop
 returns c =
-    let if1 = c .before in
-    let a = if1 .before .before .before .before in
+    let if1 = c .before in let a = if1 .before .before .before .before in
     lookup-found (a .before .before .args .t1) (a .loop .i) (omega arith) _ (a .loop .inv .1) (if1 .if1 .taken)
 
 add-i : tie.Need-add-i Inv-loop μ-loop

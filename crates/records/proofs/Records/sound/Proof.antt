@@ -20,17 +20,13 @@ blank-requires c κs = search needs
 
 returns-2 : tie.Need-returns-2
 returns-2 c =
-    let if2 = c .before in
-    let distinct = if2 .before in
-    let a = distinct .before in
-    let s = a .before .before .args .self in
+    let if2 = c .before in let distinct = if2 .before in let a = distinct .before in let s = a .before .before .args .self in
     let once = sym (distinct .distinct .ensures) ∙ if2 .if2 .taken in
     side-answer s _ (search (needs, unmapped)) (simp (le-leb _ _ (a .if1 .left), once, c .blank .ensures))
 
 returns-3 : tie.Need-returns-3
 returns-3 c =
-    let a = c .before .before in
-    let s = a .before .before .args .self in
+    let a = c .before .before in let s = a .before .before .args .self in
     let twice = sym (c .before .distinct .ensures) ∙ c .if2 .left in
     side-answer s false (search (needs, unmapped)) (simp (le-leb _ _ (a .if1 .left), twice))
 
