@@ -2,9 +2,11 @@ pub mod CountLaws
 pub mod ListLaws
 pub mod TableLaws
 pub mod OrderLaws
+mod LayoutLaws
 mod WalkLaws
 mod FaultLaws
 mod ReadAnswers
 mod ValidityAnswers
 mod LookupAnswers
+mod PairAnswers
 mod ValueAnswers

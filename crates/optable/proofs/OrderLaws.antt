@@ -12,7 +12,7 @@ use Rattle.records.specs.declared.Code.{Code}
 use Rattle.optable.specs.Read.{rank, below}
 
 -- two tests of an order agree where each way round of one is that of the other
-same-order : (a b c d : ℕ) (t : Bool) → ltb a b ≡ t → (a < b → c < d) → (b ≤ a → d ≤ c) → ltb c d ≡ ltb a b
+pub same-order : (a b c d : ℕ) (t : Bool) → ltb a b ≡ t → (a < b → c < d) → (b ≤ a → d ≤ c) → ltb c d ≡ ltb a b
 same-order a b c d true e f g = lt-ltb c d (f (ltb-true a b e)) ∙ sym e
 same-order a b c d false e f g = le-ltb c d (g (ltb-false a b e)) ∙ sym e
 

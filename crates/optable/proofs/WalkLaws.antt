@@ -1,64 +1,66 @@
 -- What a walk over a part reads at its place is what the definitions read of the entry, and the next place is the next entry's.
-use Prim.Native.Nat.{ℕ, _+_, _-_, _/_, _%_, _≤_, _<_}
+use Prim.Native.Nat.{ℕ, _+_, _-_, _*_, _/_, _%_, _≤_, _<_}
 use native.Mathlib.Omega.{arith}
 use mathlib.Core.Path.{_≡_, refl, ap, subst, _∙_}
-use mathlib.Core.Bool.{Bool, true, false}
+use mathlib.Core.Bool.{Bool, true, false, true≢false}
 use mathlib.Core.List.{List}
-use lib.ListN.{getD}
-use lib.Dec.{eqb}
+use borrow.Author.Tests.{lt-ltb, le-ltb, ltb-true, ltb-false, eqb-true, eqb-false}
+use lib.ListN.{length, getD}
+use lib.Dec.{eqb, ltb}
 use Rattle.optable.specs.declared.Part.{Part}
 use Rattle.optable.specs.declared.Part.the-variants.{Operations, Errors, ErrorPairs, ChildPairs}
 use Rattle.optable.specs.declared.entry.Reached.{Reached}
-use Rattle.optable.specs.Read.{u16, u32, sizeOf, start, place, octetAt, codeAt, firstAt, secondAt, below}
-use Rattle.optable.specs.Validity.{ruleRight, operationRight, pairRight, coded, pairBelow, above, fieldsRight}
+use Rattle.optable.specs.Read.{u16, u32, sizeOf, count, start, place, octetAt, codeAt, firstAt, secondAt, below}
+use Rattle.optable.specs.Validity.{laidOut, ruleRight, operationRight, pairRight, coded, pairBelow, above, fieldsRight}
 use Rattle.optable.specs.Walk.{Stands}
-use Rattle.optable.proofs.ValidityAnswers.{above-by-code, above-by-pair, error-rule-decides}
+use Rattle.optable.proofs.LayoutLaws.{next-place, place-near, places-rise, entry-inside}
+use Rattle.optable.proofs.OrderLaws.{same-order}
+use Rattle.optable.proofs.ValidityAnswers.{first-below, first-above, first-same, above-by-code, above-by-pair, error-rule-decides}
 
 -- ---- places
 
-module _ (t : List ℕ) where
-  pub first-place : (k : Part) → start t k ≡ place t k 0
-  unfolding place
-  first-place Operations = omega arith
-  first-place Errors = omega arith
-  first-place ErrorPairs = omega arith
-  first-place ChildPairs = omega arith
+pub walk-near : (t : List ℕ) (k : Part) (i : ℕ) {a : ℕ} → a ≡ place t k i → start t k < 65536 → i < 65536 → a < 1048560
+walk-near t k i {a} e p q = omega (arith, e, place-near t k i p q)
 
-  pub next-place : (k : Part) (i : ℕ) → place t k i + sizeOf k ≡ place t k (i + 1)
-  unfolding place
-  next-place Operations i = omega arith
-  next-place Errors i = omega arith
-  next-place ErrorPairs i = omega arith
-  next-place ChildPairs i = omega arith
+-- a walk over a table that is laid out stands at an entry of it
+pub walk-stands : (t : List ℕ) {k : Part} {i n a b : ℕ} → laidOut t ≡ true → n ≡ count t k → i < n → n < 65536 → start t k < 65536 → a ≡ place t k i → (1 ≤ i → b ≡ place t k (i - 1)) → Stands t k (record { index = i; at = a; before = b })
+walk-stands t {k} {i} {n} {a} {b} l c p m q e f = record {
+  laid = l;
+  here = e;
+  last = f;
+  inside = omega (arith, entry-inside t l k i (omega arith));
+  near = walk-near t k i e q (omega arith);
+}
 
-  pub place-near : (k : Part) (i : ℕ) → start t k < 65536 → i < 65536 → place t k i < 1048560
-  unfolding place
-  place-near Operations i p q = omega arith
-  place-near Errors i p q = omega arith
-  place-near ErrorPairs i p q = omega arith
-  place-near ChildPairs i p q = omega arith
+pub walk-next : (t : List ℕ) (k : Part) (i : ℕ) {a s : ℕ} → a ≡ place t k i → s ≡ sizeOf k → a + s ≡ place t k (i + 1)
+walk-next t k i {a} {s} e f = ap (λ (x : ℕ). x + s) e ∙ ap (λ (x : ℕ). place t k i + x) f ∙ next-place t k i
 
-  -- the first entry, and the one behind another
-  pub walk-first : {k : Part} {a : ℕ} → a ≡ start t k → a < 65536 → Stands t k (record { index = 0; at = a; before = 0 })
-  walk-first {k} {a} e h = record {
-    here = e ∙ first-place k;
-    last = λ p. absurd (omega arith);
-    near = omega arith;
-    behind = omega arith;
-  }
-
-  pub walk-next : {k : Part} {i a b s : ℕ} → Stands t k (record { index = i; at = a; before = b }) → s ≡ sizeOf k → start t k < 65536 → i + 1 < 65536 → Stands t k (record { index = i + 1; at = a + s; before = a })
-  walk-next {k} {i} {a} {b} {s} w e p q = record {
-    here = there;
-    last = λ _. w .here ∙ ap (place t k) (omega arith);
-    near = omega (arith, there, place-near k (i + 1) p q);
-    behind = w .near;
-  }
-    where
-      there : a + s ≡ place t k (i + 1)
-      there = ap (λ (x : ℕ). x + s) (w .here) ∙ ap (λ (x : ℕ). place t k i + x) e ∙ next-place k i
+pub walk-last : (t : List ℕ) (k : Part) (i : ℕ) {a : ℕ} → a ≡ place t k i → a ≡ place t k (i + 1 - 1)
+walk-last t k i {a} e = e ∙ ap (place t k) (omega arith)
 
 -- ---- what is read there
+
+-- an entry has at least the four octets of a code or a pair
+four-at-least : (k : Part) → 4 ≤ sizeOf k
+four-at-least Operations = omega arith
+four-at-least Errors = omega arith
+four-at-least ErrorPairs = omega arith
+four-at-least ChildPairs = omega arith
+
+-- two numbers of two octets, compared as one of four
+pair-as-one : (a b c d : ℕ) → b < 65536 → d < 65536 → ltb (a * 65536 + b) (c * 65536 + d) ≡ pairBelow a b c d
+pair-as-one a b c d p q = go (ltb a c) refl (eqb a c) refl
+  where
+    go : (x : Bool) → ltb a c ≡ x → (y : Bool) → eqb a c ≡ y → ltb (a * 65536 + b) (c * 65536 + d) ≡ pairBelow a b c d
+    go true e y f = let l = ltb-true a c e in lt-ltb (a * 65536 + b) (c * 65536 + d) (omega arith) ∙ first-below a b c d l
+    go false e true f =
+        let l = ltb-false a c e in
+        let s = eqb-true a c f in
+        same-order b d (a * 65536 + b) (c * 65536 + d) (ltb b d) refl (λ m. omega arith) (λ m. omega arith) ∙ first-same a b c d l s
+    go false e false f =
+        let l = ltb-false a c e in
+        let n = eqb-false a c f in
+        le-ltb (a * 65536 + b) (c * 65536 + d) (omega (arith, n)) ∙ first-above a b c d l n
 
 module _ {t : List ℕ} {k : Part} {e : Reached} (w : Stands t k e) where
   pub octet-read : (m : ℕ) {n : ℕ} → n ≡ getD t (e .at + m) 0 → n ≡ octetAt t k (e .index) m
@@ -73,7 +75,13 @@ module _ {t : List ℕ} {k : Part} {e : Reached} (w : Stands t k e) where
   unfolding secondAt
   second-read {n} p = p ∙ ap (λ (x : ℕ). u16 t (x + 2)) (w .here)
 
+  pub here-inside : e .at + 4 ≤ length t
+  here-inside = omega (arith, w .inside, four-at-least k)
+
   module _ (h : 1 ≤ e .index) where
+    pub before-inside : e .before + 4 ≤ length t
+    before-inside = omega (arith, w .last h, w .here, places-rise t k (e .index - 1) (e .index) (omega arith), here-inside)
+
     pub codes-decide : {a b : ℕ} {r : Bool} → coded k ≡ true → a ≡ u32 t (e .before) → b ≡ u32 t (e .at) → r ≡ below (record { 0 = a }) (record { 0 = b }) → r ≡ above t k (e .index - 1) (e .index)
     unfolding codeAt
     codes-decide {a} {b} {r} c p q g =
@@ -81,14 +89,11 @@ module _ {t : List ℕ} {k : Part} {e : Reached} (w : Stands t k e) where
         let q′ : b ≡ u32 t (place t k (e .index)) = q ∙ ap (u32 t) (w .here) in
         above-by-code t k (e .index - 1) (e .index) c (g ∙ rw (p′, q′) refl)
 
-    pub pairs-decide : {a b c d : ℕ} {r : Bool} → coded k ≡ false → a ≡ u16 t (e .before) → b ≡ u16 t (e .before + 2) → c ≡ u16 t (e .at) → d ≡ u16 t (e .at + 2) → r ≡ pairBelow a b c d → r ≡ above t k (e .index - 1) (e .index)
+    pub pairs-decide : {a b : ℕ} {r : Bool} → coded k ≡ false → a ≡ u32 t (e .before) → u16 t (e .before + 2) < 65536 → b ≡ u32 t (e .at) → u16 t (e .at + 2) < 65536 → r ≡ ltb a b → r ≡ above t k (e .index - 1) (e .index)
     unfolding firstAt secondAt
-    pairs-decide {a} {b} {c} {d} {r} n p q u v g =
-        let p′ : a ≡ u16 t (place t k (e .index - 1)) = p ∙ ap (u16 t) (w .last h) in
-        let q′ : b ≡ u16 t (place t k (e .index - 1) + 2) = q ∙ ap (λ (x : ℕ). u16 t (x + 2)) (w .last h) in
-        let u′ : c ≡ u16 t (place t k (e .index)) = u ∙ ap (u16 t) (w .here) in
-        let v′ : d ≡ u16 t (place t k (e .index) + 2) = v ∙ ap (λ (x : ℕ). u16 t (x + 2)) (w .here) in
-        above-by-pair t k (e .index - 1) (e .index) n (g ∙ rw (p′, q′, u′, v′) refl)
+    pairs-decide {a} {b} {r} n p x q y g =
+        let s : ltb a b ≡ pairBelow (u16 t (e .before)) (u16 t (e .before + 2)) (u16 t (e .at)) (u16 t (e .at + 2)) = rw (p, q) (pair-as-one _ _ _ _ x y) in
+        above-by-pair t k (e .index - 1) (e .index) n (g ∙ s ∙ rw (w .last h, w .here) refl)
 
 -- ---- fields
 
@@ -106,10 +111,9 @@ module _ (t : List ℕ) (i : ℕ) where
       let g′ : b ≡ ruleRight (record { identifier = octetAt t Errors i 4; optional = eqb (octetAt t Errors i 5 % 2) 1 }) = rw (p, q) at g in
       error-rule-decides t i (omega arith) g′
 
-  pub error-pair-fields : (k : Part) → k ≡ ErrorPairs → pairRight t k i ≡ fieldsRight t k i
+  pub pair-fields : (k l : Part) → k ≡ l → coded l ≡ false → pairRight t k i ≡ fieldsRight t k i
   unfolding fieldsRight
-  error-pair-fields k e = rw e refl
-
-  pub child-pair-fields : (k : Part) → k ≡ ChildPairs → pairRight t k i ≡ fieldsRight t k i
-  unfolding fieldsRight
-  child-pair-fields k e = rw e refl
+  pair-fields k Operations e w = absurd (true≢false w)
+  pair-fields k Errors e w = absurd (true≢false w)
+  pair-fields k ErrorPairs e w = rw e refl
+  pair-fields k ChildPairs e w = rw e refl

@@ -1,21 +1,22 @@
 // Whether a part's entries are right, each by itself and in their order.
 ghost use mathlib.Core.Path.{_≡_};
-ghost use Prim.Native.Nat.{_-_, _≤_};
-ghost use Rattle.optable.specs.Validity.{operationRight, allowed, pairRight, coded, pairBelow, above, rises, fieldsRight, entryRight};
+ghost use mathlib.Core.Bool.{true};
+ghost use lib.ListN.{length};
+ghost use Prim.Native.Nat.{_-_, _≤_, _<_};
+ghost use Rattle.optable.specs.Validity.{laidOut, operationRight, allowed, pairRight, coded, above, rises, fieldsRight, entryRight};
+ghost use Rattle.optable.specs.Read.{count, classAt};
 ghost use Rattle.optable.specs.Fault.{firstWrong};
 ghost use Rattle.optable.specs.Walk.{Stands, countsOf};
 use crate::Part;
 use crate::Place;
 use crate::Rule;
-use crate::read::count;
-use crate::read::four;
+use crate::read::count_within;
+use crate::read::four_within;
 use crate::read::is_below;
-use crate::read::octet;
-use crate::read::octet_at;
 use crate::read::second_part;
 use crate::read::size_of;
-use crate::read::start;
-use crate::read::two;
+use crate::read::start_within;
+use crate::read::two_within;
 use records::Code;
 
 fn is_operation_right(class: u8, flags: u8, argument: Rule, result: Rule) -> bool
@@ -75,26 +76,35 @@ struct Counts {
 }
 
 fn counts_of(table: &[u8], part: Part) -> Counts
+    requires { ⌜ 16 ≤ length (now table) ⌝ }
     ensures { λ r. ⌜ r ≡ countsOf (now (table .entry)) part ⌝ }
 {
     Counts {
-        operations: count(table, Part::Operations),
-        seconds: count(table, second_part(part)),
+        operations: count_within(table, Part::Operations),
+        seconds: count_within(table, second_part(part)),
     }
+}
+
+// The class of an operation: in a table that is laid out they start at 16.
+fn class_within(table: &[u8], i: u16) -> u8
+    requires { ⌜ (laidOut (now table) ≡ true) × (i < count (now table) Part.Operations) ⌝ }
+    ensures { λ r. ⌜ r ≡ classAt (now (table .entry)) i ⌝ }
+{
+    table[16 + (i as usize) * 8 + 4]
 }
 
 fn is_pair_right(table: &[u8], part: Part, reached: Reached, counts: Counts) -> bool
     requires { ⌜ Stands (now table) part reached × (counts ≡ countsOf (now table) part) ⌝ }
     ensures { λ r. ⌜ r ≡ pairRight (now (table .entry)) part (reached .index) ⌝ }
 {
-    let operation = two(table, reached.at);
+    let operation = two_within(table, reached.at);
     if operation >= counts.operations {
         return false;
     }
-    if two(table, reached.at + 2) >= counts.seconds {
+    if two_within(table, reached.at + 2) >= counts.seconds {
         return false;
     }
-    is_allowed(part, octet_at(table, Part::Operations, operation, 4))
+    is_allowed(part, class_within(table, operation))
 }
 
 fn is_coded(part: Part) -> bool
@@ -108,34 +118,17 @@ fn is_coded(part: Part) -> bool
     }
 }
 
-fn is_pair_below(a: u16, b: u16, c: u16, d: u16) -> bool
-    ensures { λ r. ⌜ r ≡ pairBelow a b c d ⌝ }
-{
-    if a < c {
-        return true;
-    }
-    if a != c {
-        return false;
-    }
-    b < d
-}
-
-// Whether an entry stands above the one before it.
+// Whether an entry stands above the one before it. A pair's two numbers are compared as one of four octets.
 fn is_above(table: &[u8], part: Part, reached: Reached) -> bool
     requires { ⌜ Stands (now table) part reached × (1 ≤ reached .index) ⌝ }
     ensures { λ r. ⌜ r ≡ above (now (table .entry)) part (reached .index - 1) (reached .index) ⌝ }
 {
-    let before = reached.before;
-    let at = reached.at;
+    let before = four_within(table, reached.before);
+    let here = four_within(table, reached.at);
     if is_coded(part) {
-        return is_below(Code(four(table, before)), Code(four(table, at)));
+        return is_below(Code(before), Code(here));
     }
-    is_pair_below(
-        two(table, before),
-        two(table, before + 2),
-        two(table, at),
-        two(table, at + 2),
-    )
+    before < here
 }
 
 // Whether an entry is the first or stands above the one before it.
@@ -154,16 +147,16 @@ fn is_operation_at_right(table: &[u8], reached: Reached) -> bool
     ensures { λ r. ⌜ r ≡ fieldsRight (now (table .entry)) Part.Operations (reached .index) ⌝ }
 {
     let at = reached.at;
-    let flags = octet(table, at + 7);
+    let flags = table[at + 7];
     let argument = Rule {
-        identifier: octet(table, at + 5),
+        identifier: table[at + 5],
         optional: flags % 2 == 1,
     };
     let result = Rule {
-        identifier: octet(table, at + 6),
+        identifier: table[at + 6],
         optional: flags / 2 % 2 == 1,
     };
-    is_operation_right(octet(table, at + 4), flags, argument, result)
+    is_operation_right(table[at + 4], flags, argument, result)
 }
 
 fn is_error_at_right(table: &[u8], reached: Reached) -> bool
@@ -171,12 +164,12 @@ fn is_error_at_right(table: &[u8], reached: Reached) -> bool
     ensures { λ r. ⌜ r ≡ fieldsRight (now (table .entry)) Part.Errors (reached .index) ⌝ }
 {
     let at = reached.at;
-    let flag = octet(table, at + 5);
+    let flag = table[at + 5];
     if flag > 1 {
         return false;
     }
     let parameter = Rule {
-        identifier: octet(table, at + 4),
+        identifier: table[at + 4],
         optional: flag % 2 == 1,
     };
     parameter.is_right()
@@ -207,12 +200,13 @@ fn is_entry_right(table: &[u8], part: Part, reached: Reached, counts: Counts) ->
 
 // One walk over a part, to its first entry that is wrong.
 pub(crate) fn first_wrong(table: &[u8], part: Part) -> Place
+    requires { ⌜ laidOut (now table) ≡ true ⌝ }
     ensures { λ r. ⌜ r ≡ firstWrong (now (table .entry)) part ⌝ }
 {
-    let n = count(table, part);
+    let n = count_within(table, part);
     let counts = counts_of(table, part);
     let size = size_of(part);
-    let mut at = start(table, part);
+    let mut at = start_within(table, part);
     let mut before: usize = 0;
     let mut i: u16 = 0;
     while i < n {

@@ -1,7 +1,7 @@
 // What a table's octets say, an octet behind the end being 0.
 ghost use mathlib.Core.Path.{_≡_};
-ghost use Prim.Native.Nat.{_<_, _≤_};
-ghost use lib.ListN.{getD};
+ghost use Prim.Native.Nat.{_+_, _<_, _≤_};
+ghost use lib.ListN.{getD, length};
 ghost use Rattle.optable.specs.Read.{u16, u32, headOf, sizeOf, count, start, place, octetAt, codeAt, hasCode, operationAt, errorAt, firstAt, secondAt, secondPart, rank, below};
 use crate::Error;
 use crate::Operation;
@@ -9,7 +9,7 @@ use crate::Part;
 use crate::Rule;
 use records::Code;
 
-pub(crate) fn octet(table: &[u8], at: usize) -> u8
+fn octet(table: &[u8], at: usize) -> u8
     ensures { λ r. ⌜ r ≡ getD (now (table .entry)) at 0 ⌝ }
 {
     if at < table.len() {
@@ -18,13 +18,30 @@ pub(crate) fn octet(table: &[u8], at: usize) -> u8
     0
 }
 
-// One look at the length where both octets are there.
-pub(crate) fn two(table: &[u8], at: usize) -> u16
+// Two octets that the table has.
+pub(crate) fn two_within(table: &[u8], at: usize) -> u16
+    requires { ⌜ at + 2 ≤ length (now table) ⌝ }
+    ensures { λ r. ⌜ r ≡ u16 (now (table .entry)) at ⌝ }
+{
+    (table[at] as u16) * 256 + (table[at + 1] as u16)
+}
+
+// Four octets that the table has.
+pub(crate) fn four_within(table: &[u8], at: usize) -> u32
+    requires { ⌜ at + 4 ≤ length (now table) ⌝ }
+    ensures { λ r. ⌜ (r ≡ u32 (now (table .entry)) at) × (u16 (now (table .entry)) (at + 2) < 65536) ⌝ }
+{
+    let high = two_within(table, at);
+    let low = two_within(table, at + 2);
+    (high as u32) * 65536 + (low as u32)
+}
+
+fn two(table: &[u8], at: usize) -> u16
     requires { ⌜ at < 1048576 ⌝ }
     ensures { λ r. ⌜ r ≡ u16 (now (table .entry)) at ⌝ }
 {
-    if at + 1 < table.len() {
-        return (table[at] as u16) * 256 + (table[at + 1] as u16);
+    if at + 2 <= table.len() {
+        return two_within(table, at);
     }
     (octet(table, at) as u16) * 256
 }
@@ -33,6 +50,9 @@ pub(crate) fn four(table: &[u8], at: usize) -> u32
     requires { ⌜ at < 1048574 ⌝ }
     ensures { λ r. ⌜ r ≡ u32 (now (table .entry)) at ⌝ }
 {
+    if at + 4 <= table.len() {
+        return four_within(table, at);
+    }
     let high = two(table, at);
     let low = two(table, at + 2);
     (high as u32) * 65536 + (low as u32)
@@ -84,6 +104,21 @@ pub fn start(table: &[u8], part: Part) -> usize
     two(table, head_of(part) + 2) as usize
 }
 
+// A part's count and start, read of a table that has its header.
+pub(crate) fn count_within(table: &[u8], part: Part) -> u16
+    requires { ⌜ 16 ≤ length (now table) ⌝ }
+    ensures { λ r. ⌜ r ≡ count (now (table .entry)) part ⌝ }
+{
+    two_within(table, head_of(part))
+}
+
+pub(crate) fn start_within(table: &[u8], part: Part) -> usize
+    requires { ⌜ 16 ≤ length (now table) ⌝ }
+    ensures { λ r. ⌜ (r ≡ start (now (table .entry)) part) × (r < 65536) ⌝ }
+{
+    two_within(table, head_of(part) + 2) as usize
+}
+
 // Where entry `i` starts.
 pub fn entry_place(table: &[u8], part: Part, i: u16) -> usize
     ensures { λ r. ⌜ (r ≡ place (now (table .entry)) part i) × (r < 1048560) ⌝ }
@@ -126,15 +161,16 @@ pub fn second_at(table: &[u8], part: Part, i: u16) -> u16
 pub fn operation_at(table: &[u8], i: u16) -> Operation
     ensures { λ r. ⌜ r ≡ operationAt (now (table .entry)) i ⌝ }
 {
-    let flags = octet_at(table, Part::Operations, i, 7);
+    let at = entry_place(table, Part::Operations, i);
+    let flags = octet(table, at + 7);
     Operation::Listed {
-        class: octet_at(table, Part::Operations, i, 4),
+        class: octet(table, at + 4),
         argument: Rule {
-            identifier: octet_at(table, Part::Operations, i, 5),
+            identifier: octet(table, at + 5),
             optional: flags % 2 == 1,
         },
         result: Rule {
-            identifier: octet_at(table, Part::Operations, i, 6),
+            identifier: octet(table, at + 6),
             optional: flags / 2 % 2 == 1,
         },
     }
@@ -143,9 +179,10 @@ pub fn operation_at(table: &[u8], i: u16) -> Operation
 pub fn error_at(table: &[u8], i: u16) -> Error
     ensures { λ r. ⌜ r ≡ errorAt (now (table .entry)) i ⌝ }
 {
-    let flag = octet_at(table, Part::Errors, i, 5);
+    let at = entry_place(table, Part::Errors, i);
+    let flag = octet(table, at + 5);
     Error::Known(Rule {
-        identifier: octet_at(table, Part::Errors, i, 4),
+        identifier: octet(table, at + 4),
         optional: flag % 2 == 1,
     })
 }

@@ -12,47 +12,43 @@ returns : tie.Need-returns
 returns c = layout-wrong _ (said-no (c .before .is-laid-out .ensures) (c .if1 .taken))
 
 part-fault-requires : tie.Need-part-fault-requires
-part-fault-requires c κs = search needs
+part-fault-requires c κs = said-yes (c .before .is-laid-out .ensures) (c .if1 .left)
 
 is-nothing-requires : tie.Need-is-nothing-requires
 is-nothing-requires c κs = search needs
 
 returns-2 : tie.Need-returns-2
 returns-2 c =
-    let is-nothing = c .before in
-    let part-fault = is-nothing .before in
-    let l = part-fault .before in
+    let is-nothing = c .before in let part-fault = is-nothing .before in let l = part-fault .before in
     parts-decide _ (said-yes (l .before .is-laid-out .ensures) (l .if1 .left))
     (first-of-two _ (part-fault .part-fault .ensures) (said-no (is-nothing .is-nothing .ensures) (c .if2 .taken)))
 
 part-fault-requires-2 : tie.Need-part-fault-requires-2
-part-fault-requires-2 c κs = search needs
+part-fault-requires-2 c κs =
+    let l = c .before .before .before in
+    said-yes (l .before .is-laid-out .ensures) (l .if1 .left)
 
 is-nothing-requires-2 : tie.Need-is-nothing-requires-2
 is-nothing-requires-2 c κs = search needs
 
 returns-3 : tie.Need-returns-3
 returns-3 c =
-    let is-nothing2 = c .before in
-    let part-fault2 = is-nothing2 .before in
-    let o = part-fault2 .before in
-    let l = o .before .before .before in
+    let is-nothing2 = c .before in let part-fault2 = is-nothing2 .before in let o = part-fault2 .before in let l = o .before .before .before in
     parts-decide _ (said-yes (l .before .is-laid-out .ensures) (l .if1 .left))
     (second-of-two (o .before .before .part-fault .ensures) (said-yes (o .before .is-nothing .ensures) (o .if2 .left))
     (first-of-two _ (part-fault2 .part-fault2 .ensures) (said-no (is-nothing2 .is-nothing2 .ensures) (c .if3 .taken))))
 
 part-fault-requires-3 : tie.Need-part-fault-requires-3
-part-fault-requires-3 c κs = search needs
+part-fault-requires-3 c κs =
+    let l = c .before .before .before .before .before .before in
+    said-yes (l .before .is-laid-out .ensures) (l .if1 .left)
 
 is-nothing-requires-3 : tie.Need-is-nothing-requires-3
 is-nothing-requires-3 c κs = search needs
 
 returns-4 : tie.Need-returns-4
 returns-4 c =
-    let is-nothing3 = c .before in
-    let part-fault3 = is-nothing3 .before in
-    let e = part-fault3 .before in
-    let o = e .before .before .before in
+    let is-nothing3 = c .before in let part-fault3 = is-nothing3 .before in let e = part-fault3 .before in let o = e .before .before .before in
     let l = o .before .before .before in
     parts-decide _ (said-yes (l .before .is-laid-out .ensures) (l .if1 .left))
     (second-of-two (o .before .before .part-fault .ensures) (said-yes (o .before .is-nothing .ensures) (o .if2 .left))
@@ -60,14 +56,13 @@ returns-4 c =
     (first-of-two _ (part-fault3 .part-fault3 .ensures) (said-no (is-nothing3 .is-nothing3 .ensures) (c .if4 .taken)))))
 
 part-fault-requires-4 : tie.Need-part-fault-requires-4
-part-fault-requires-4 c κs = search needs
+part-fault-requires-4 c κs =
+    let l = c .before .before .before .before .before .before .before .before .before in
+    said-yes (l .before .is-laid-out .ensures) (l .if1 .left)
 
 returns-5 : tie.Need-returns-5
 returns-5 c =
-    let p = c .before in
-    let e = p .before .before .before in
-    let o = e .before .before .before in
-    let l = o .before .before .before in
+    let p = c .before in let e = p .before .before .before in let o = e .before .before .before in let l = o .before .before .before in
     parts-decide _ (said-yes (l .before .is-laid-out .ensures) (l .if1 .left))
     (second-of-two (o .before .before .part-fault .ensures) (said-yes (o .before .is-nothing .ensures) (o .if2 .left))
     (second-of-two (e .before .before .part-fault2 .ensures) (said-yes (e .before .is-nothing2 .ensures) (e .if3 .left))

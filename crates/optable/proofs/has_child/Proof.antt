@@ -1,5 +1,5 @@
 -- Where the parent is not found it has no child; where it is, the pairs with its index are those of its code.
-use Rattle.optable.proofs.LookupAnswers.{parent-nowhere, parent-by-index}
+use Rattle.optable.proofs.PairAnswers.{parent-nowhere, parent-by-index}
 use borrow.Author.Needs.{needs}
 use Rattle.optable.proofs.has_child.Statement.{statement}
 use Rattle.optable.proofs.has_child.Tie as tie

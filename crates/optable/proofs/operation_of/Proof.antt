@@ -22,8 +22,7 @@ enum-told c = search needs
 returns : tie.Need-returns
 unfolding operationIn
 returns c =
-    let i = c .before .before in
-    let find = i .before .before in
+    let i = c .before .before in let find = i .before .before in
     read-of-place _ _ _ _ _ (At (i .i .given .0 .0)) _ (find .find .ensures) (cc) (c .operation-at .ensures)
 
 returns-2 : tie.Need-returns-2

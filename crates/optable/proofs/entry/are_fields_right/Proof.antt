@@ -1,6 +1,7 @@
 -- By the part: the check of its entries.
-use mathlib.Core.Path.{_∙_}
-use Rattle.optable.proofs.WalkLaws.{stands-as, error-pair-fields, child-pair-fields}
+use mathlib.Core.Path.{refl, _∙_}
+use Rattle.optable.specs.declared.Part.the-variants.{ErrorPairs, ChildPairs}
+use Rattle.optable.proofs.WalkLaws.{stands-as, pair-fields}
 use borrow.Author.Needs.{needs}
 use Rattle.optable.proofs.entry.are_fields_right.Statement.{statement}
 use Rattle.optable.proofs.entry.are_fields_right.Tie as tie
@@ -36,10 +37,10 @@ returns-2 : tie.Need-returns-2
 returns-2 c = cc
 
 returns-3 : tie.Need-returns-3
-returns-3 c = c .is-pair-right .ensures ∙ error-pair-fields _ _ _ (cc)
+returns-3 c = c .is-pair-right .ensures ∙ pair-fields _ _ _ ErrorPairs (cc) refl
 
 returns-4 : tie.Need-returns-4
-returns-4 c = c .is-pair-right2 .ensures ∙ child-pair-fields _ _ _ (cc)
+returns-4 c = c .is-pair-right2 .ensures ∙ pair-fields _ _ _ ChildPairs (cc) refl
 
 pub are-fields-right-spec : {M : Type 1} → statement M
 are-fields-right-spec =

@@ -1,14 +1,15 @@
--- The invariant: the walk stands at entry i, and the first wrong entry is the first of those left. The measure: entries left.
+-- The invariant: the walk stands at the place of entry i, and the first wrong entry is the first of those left. The measure: entries left.
 use Prim.Native.Nat.{_≤_, _-_}
 use native.Mathlib.Omega.{arith}
-use mathlib.Core.Path.{_≡_}
+use mathlib.Core.Path.{_≡_, _∙_}
 use mathlib.Core.Bool.{not}
 use Rattle.base.proofs.Tests.{said-no, said-yes}
 use Rattle.optable.specs.Count.{seek}
+use Rattle.optable.specs.Read.{place}
 use Rattle.optable.specs.Validity.{entryRight}
 use Rattle.optable.specs.Fault.{firstWrong}
-use Rattle.optable.specs.Walk.{Stands}
-use Rattle.optable.proofs.WalkLaws.{walk-first, walk-next}
+use Rattle.optable.proofs.LayoutLaws.{first-place, header-there}
+use Rattle.optable.proofs.WalkLaws.{walk-stands, walk-near, walk-next, walk-last}
 use Rattle.optable.proofs.FaultLaws.{walk-starts, wrong-found, right-passed, walk-ended}
 use borrow.Author.Needs.{needs}
 use Rattle.optable.proofs.entry.first_wrong.Statement.{statement}
@@ -16,37 +17,41 @@ use Rattle.optable.proofs.entry.first_wrong.Tie as tie
 
 abbrev Inv-loop : tie.InvT-loop
 Inv-loop table part n counts size at₀ before₀ i₀ at before i =
-    (i ≤ n) × (Stands table part (record { index = i; at = at; before = before })) × (firstWrong table part ≡ seek (λ j. not (entryRight table part j)) (n - i) i)
+    (i ≤ n) × (at ≡ place table part i) × (1 ≤ i → before ≡ place table part (i - 1)) × (firstWrong table part ≡ seek (λ j. not (entryRight table part j)) (n - i) i)
 
 abbrev μ-loop : tie.MeasureT-loop
 μ-loop table part n counts size at₀ before₀ i₀ at before i = n - i
 
-count-requires : tie.Need-count-requires Inv-loop μ-loop
-count-requires c κs = search needs
+count-within-requires : tie.Need-count-within-requires Inv-loop μ-loop
+count-within-requires c κs = header-there _ (c .before .pre)
 
 counts-of-requires : tie.Need-counts-of-requires Inv-loop μ-loop
-counts-of-requires c κs = search needs
+counts-of-requires c κs = header-there _ (c .before .before .pre)
 
 size-of-requires : tie.Need-size-of-requires Inv-loop μ-loop
 size-of-requires c κs = search needs
 
-start-requires : tie.Need-start-requires Inv-loop μ-loop
-start-requires c κs = search needs
+start-within-requires : tie.Need-start-within-requires Inv-loop μ-loop
+start-within-requires c κs = header-there _ (c .before .before .before .before .pre)
 
 loop-holds : tie.Need-loop-holds Inv-loop μ-loop
 loop-holds c =
-    (omega arith, walk-first _ (c .start .ensures .0) (c .start .ensures .1), walk-starts _ _ _ (c .before .before .before .count .ensures))
+    (omega arith, c .start-within .ensures .0 ∙ first-place _ _, λ p. absurd (omega arith), walk-starts _ _ _ (c .before .before .before .count-within .ensures))
 
 is-entry-right-requires : tie.Need-is-entry-right-requires Inv-loop μ-loop
-is-entry-right-requires c κs = (c .before .loop .inv .1, c .before .before .before .before .counts-of .ensures)
+is-entry-right-requires c κs =
+    let loop = c .before in let at = loop .before in let counts = at .before .before in let count = counts .before in let start = count .before .before in
+    (walk-stands _ (start .pre) (count .count-within .ensures) (omega arith) (omega arith) (omega (arith, at .start-within .ensures)) (loop .loop .inv .1) (loop .loop .inv .2), counts .counts-of .ensures)
 
 returns : tie.Need-returns Inv-loop μ-loop
 returns c =
     let loop = c .before .before .before in
-    wrong-found _ _ _ _ (loop .loop .inv .2) (omega arith) (said-no (c .before .is-entry-right .ensures) (c .if1 .taken))
+    wrong-found _ _ _ _ (loop .loop .inv .3) (omega arith) (said-no (c .before .is-entry-right .ensures) (c .if1 .taken))
 
 add-at : tie.Need-add-at Inv-loop μ-loop
-add-at c = omega (arith, c .before .before .before .loop .inv .1 .near, c .before .before .before .before .before .size-of .ensures .1)
+add-at c =
+    let loop = c .before .before .before in let at = loop .before in
+    omega (arith, walk-near _ _ (loop .loop .i) (loop .loop .inv .1) (omega (arith, at .start-within .ensures)) (omega arith), at .before .size-of .ensures .1)
 
 add-i : tie.Need-add-i Inv-loop μ-loop
 add-i c = omega arith
@@ -56,16 +61,15 @@ loop-less c = omega arith
 
 loop-again : tie.Need-loop-again Inv-loop μ-loop
 loop-again c =
-    let loop = c .before .before .before in
-    let start = loop .before in
-    let size = start .before in (
+    let loop = c .before .before .before in let at = loop .before in (
       omega arith,
-      walk-next _ (loop .loop .inv .1) (size .size-of .ensures .0) (omega (arith, start .start .ensures)) (omega arith),
-      right-passed _ _ _ _ (loop .loop .inv .2) (omega arith) (said-yes (c .before .is-entry-right .ensures) (c .if1 .left)),
+      walk-next _ _ (loop .loop .i) (loop .loop .inv .1) (at .before .size-of .ensures .0),
+      λ _. walk-last _ _ (loop .loop .i) (loop .loop .inv .1),
+      right-passed _ _ _ _ (loop .loop .inv .3) (omega arith) (said-yes (c .before .is-entry-right .ensures) (c .if1 .left)),
     )
 
 returns-2 : tie.Need-returns-2 Inv-loop μ-loop
-returns-2 c = walk-ended _ _ _ _ (c .before .loop .inv .2) (omega arith)
+returns-2 c = walk-ended _ _ _ _ (c .before .loop .inv .3) (omega arith)
 
 pub first-wrong-spec : {M : Type 1} → statement M
 first-wrong-spec =
@@ -73,10 +77,10 @@ first-wrong-spec =
     (tie.spec
     Inv-loop
     μ-loop
-    count-requires
+    count-within-requires
     counts-of-requires
     size-of-requires
-    start-requires
+    start-within-requires
     loop-holds
     is-entry-right-requires
     returns

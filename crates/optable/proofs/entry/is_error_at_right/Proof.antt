@@ -1,25 +1,26 @@
 -- The flag decides where it is neither 0 nor 1, else the rule.
 use native.Mathlib.Omega.{arith}
+use mathlib.Core.Path.{refl}
 use Rattle.optable.proofs.ValidityAnswers.{error-flag-high}
 use Rattle.optable.proofs.WalkLaws.{octet-read, error-read}
 use borrow.Author.Needs.{needs}
 use Rattle.optable.proofs.entry.is_error_at_right.Statement.{statement}
 use Rattle.optable.proofs.entry.is_error_at_right.Tie as tie
 
-add-octet : tie.Need-add-octet
-add-octet c = search needs
+add-flag : tie.Need-add-flag
+add-flag c = search needs
 
-octet-requires : tie.Need-octet-requires
-octet-requires c κs = search needs
+shared-slice-read-flag : tie.Need-shared-slice-read-flag
+shared-slice-read-flag c = search needs
 
 returns : tie.Need-returns
-returns c = error-flag-high _ _ (omega (arith, octet-read (c .before .before .before .pre) 5 (c .before .octet .ensures)))
+returns c = error-flag-high _ _ (omega (arith, octet-read (c .before .before .before .pre) 5 refl))
 
-add-octet-2 : tie.Need-add-octet-2
-add-octet-2 c = search needs
+add-t6 : tie.Need-add-t6
+add-t6 c = search needs
 
-octet-requires-2 : tie.Need-octet-requires-2
-octet-requires-2 c κs = search needs
+shared-slice-read-t8 : tie.Need-shared-slice-read-t8
+shared-slice-read-t8 c = search needs
 
 is-right-requires : tie.Need-is-right-requires
 is-right-requires c κs = search needs
@@ -27,16 +28,16 @@ is-right-requires c κs = search needs
 returns-2 : tie.Need-returns-2
 returns-2 c =
     let w = c .before .before .before .before .before .pre in
-    error-read _ _ (octet-read w 4 (c .before .octet2 .ensures)) (octet-read w 5 (c .before .before .before .octet .ensures)) (omega arith) (c .is-right .ensures)
+    error-read _ _ (octet-read w 4 refl) (octet-read w 5 refl) (omega arith) (c .is-right .ensures)
 
 pub is-error-at-right-spec : {M : Type 1} → statement M
 is-error-at-right-spec =
     tie.close
     (tie.spec
-    add-octet
-    octet-requires
+    add-flag
+    shared-slice-read-flag
     returns
-    add-octet-2
-    octet-requires-2
+    add-t6
+    shared-slice-read-t8
     is-right-requires
     returns-2)

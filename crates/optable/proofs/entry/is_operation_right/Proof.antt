@@ -35,24 +35,21 @@ returns-5 c =
 
 returns-6 : tie.Need-returns-6
 returns-6 c =
-    let b = c .before .before in
-    let a = b .before .before in
+    let b = c .before .before in let a = b .before .before in
     class-3-decides _ _ _ _ (omega arith) (omega arith) (omega arith)
     (said-yes (a .before .is-right .ensures) (a .if4 .left))
     (said-yes (b .before .is-right2 .ensures) (b .if5 .left)) (omega arith)
 
 returns-7 : tie.Need-returns-7
 returns-7 c =
-    let b = c .before .before .before in
-    let a = b .before .before in
+    let b = c .before .before .before in let a = b .before .before in
     class-5-decides _ _ _ _ (omega arith) (omega arith) (omega arith)
     (said-yes (a .before .is-right .ensures) (a .if4 .left))
     (said-yes (b .before .is-right2 .ensures) (b .if5 .left)) (omega arith)
 
 returns-8 : tie.Need-returns-8
 returns-8 c =
-    let b = c .before .before in
-    let a = b .before .before in
+    let b = c .before .before in let a = b .before .before in
     other-class-right _ _ _ _ (omega arith) (omega arith) (omega arith)
     (said-yes (a .before .is-right .ensures) (a .if4 .left))
     (said-yes (b .before .is-right2 .ensures) (b .if5 .left)) (omega arith) (omega arith)

@@ -1,63 +1,68 @@
--- Each part must start where the one before it ends; each way out is a law.
+-- A header must be there, and each part start where the one before it ends; each way out is a law.
 use native.Mathlib.Omega.{arith}
+use Rattle.optable.proofs.LayoutLaws.{header-missing}
 use Rattle.optable.proofs.ValidityAnswers.{operations-misplaced, errors-misplaced, error-pairs-misplaced, child-pairs-misplaced, length-decides}
 use borrow.Author.Needs.{needs}
 use Rattle.optable.proofs.validity.is_laid_out.Statement.{statement}
 use Rattle.optable.proofs.validity.is_laid_out.Tie as tie
 
-start-requires : tie.Need-start-requires
-start-requires c κs = search needs
-
 returns : tie.Need-returns
-returns c = operations-misplaced _ (omega arith)
+returns c = header-missing _ (omega arith)
 
-start-requires-2 : tie.Need-start-requires-2
-start-requires-2 c κs = search needs
+start-within-requires : tie.Need-start-within-requires
+start-within-requires c κs = search needs
+
+returns-2 : tie.Need-returns-2
+returns-2 c = operations-misplaced _ (omega arith)
+
+start-within-requires-2 : tie.Need-start-within-requires-2
+start-within-requires-2 c κs = search needs
 
 behind-requires : tie.Need-behind-requires
 behind-requires c κs = search needs
 
-returns-2 : tie.Need-returns-2
-returns-2 c = errors-misplaced _ (omega arith) (omega arith)
+returns-3 : tie.Need-returns-3
+returns-3 c = errors-misplaced _ (omega arith) (omega arith)
 
-start-requires-3 : tie.Need-start-requires-3
-start-requires-3 c κs = search needs
+start-within-requires-3 : tie.Need-start-within-requires-3
+start-within-requires-3 c κs = search needs
 
 behind-requires-2 : tie.Need-behind-requires-2
 behind-requires-2 c κs = search needs
 
-returns-3 : tie.Need-returns-3
-returns-3 c = error-pairs-misplaced _ (omega arith) (omega arith) (omega arith)
+returns-4 : tie.Need-returns-4
+returns-4 c = error-pairs-misplaced _ (omega arith) (omega arith) (omega arith)
 
-start-requires-4 : tie.Need-start-requires-4
-start-requires-4 c κs = search needs
+start-within-requires-4 : tie.Need-start-within-requires-4
+start-within-requires-4 c κs = search needs
 
 behind-requires-3 : tie.Need-behind-requires-3
 behind-requires-3 c κs = search needs
 
-returns-4 : tie.Need-returns-4
-returns-4 c = child-pairs-misplaced _ (omega arith) (omega arith) (omega arith) (omega arith)
+returns-5 : tie.Need-returns-5
+returns-5 c = child-pairs-misplaced _ (omega arith) (omega arith) (omega arith) (omega arith)
 
 behind-requires-4 : tie.Need-behind-requires-4
 behind-requires-4 c κs = search needs
 
-returns-5 : tie.Need-returns-5
-returns-5 c = length-decides _ (omega arith) (omega arith) (omega arith) (c .behind4 .ensures) (omega arith)
+returns-6 : tie.Need-returns-6
+returns-6 c = length-decides _ (omega arith) (omega arith) (omega arith) (c .behind4 .ensures) (omega arith)
 
 pub is-laid-out-spec : {M : Type 1} → statement M
 is-laid-out-spec =
     tie.close
     (tie.spec
-    start-requires
     returns
-    start-requires-2
-    behind-requires
+    start-within-requires
     returns-2
-    start-requires-3
-    behind-requires-2
+    start-within-requires-2
+    behind-requires
     returns-3
-    start-requires-4
-    behind-requires-3
+    start-within-requires-3
+    behind-requires-2
     returns-4
+    start-within-requires-4
+    behind-requires-3
+    returns-5
     behind-requires-4
-    returns-5)
+    returns-6)

@@ -1,13 +1,14 @@
 -- The count decides, then the first wrong entry.
 use Rattle.base.proofs.Tests.{said-no, said-yes}
 use Rattle.optable.specs.declared.Place.the-variants.{At, Nowhere}
+use Rattle.optable.proofs.LayoutLaws.{header-there}
 use Rattle.optable.proofs.FaultLaws.{part-too-long, entry-decides}
 use borrow.Author.Needs.{needs}
 use Rattle.optable.proofs.validity.part_fault.Statement.{statement}
 use Rattle.optable.proofs.validity.part_fault.Tie as tie
 
 is-within-limit-requires : tie.Need-is-within-limit-requires
-is-within-limit-requires c κs = search needs
+is-within-limit-requires c κs = header-there _ (c .before .pre)
 
 returns : tie.Need-returns
 returns c = part-too-long _ _ (said-no (c .before .is-within-limit .ensures) (c .if1 .taken))
@@ -23,15 +24,12 @@ enum-told c = search needs
 
 returns-2 : tie.Need-returns-2
 returns-2 c =
-    let index = c .before in
-    let f = index .before .before in
-    let l = f .before in
+    let index = c .before in let f = index .before .before in let l = f .before in
     entry-decides _ _ (At (index .index .given .0 .0)) (said-yes (l .before .is-within-limit .ensures) (l .if1 .left)) (f .first-wrong .ensures) (cc)
 
 returns-3 : tie.Need-returns-3
 returns-3 c =
-    let f = c .before .before in
-    let l = f .before in
+    let f = c .before .before in let l = f .before in
     entry-decides _ _ Nowhere (said-yes (l .before .is-within-limit .ensures) (l .if1 .left)) (f .first-wrong .ensures) (cc)
 
 pub part-fault-spec : {M : Type 1} → statement M
