@@ -3,7 +3,7 @@ use mathlib.Core.Path.{_≡_, refl, sym, ap, _∙_}
 use mathlib.Core.Bool.{Bool, true, cond}
 use mathlib.Core.List.{List, [], _∷_, _++_, append-nil}
 use mathlib.Core.Option.{Option, some}
-use Prim.Native.Nat.{ℕ, zero, suc, _-_, _≤_}
+use Prim.Native.Nat.{ℕ, zero, suc, _+_, _-_, _≤_}
 use native.Mathlib.Omega.{arith}
 use lib.ListN.{length, take, drop, length-drop, take-append-drop}
 use lib.Seq.{take-append-le, drop-append-le, length-take-le}
@@ -14,7 +14,7 @@ use Rattle.ber.specs.Rule.{contentRule}
 use Rattle.ber.specs.Element.{part, constructed, restRight, elementsIn, elementOf, contentsOf, size, wellFormed}
 use Rattle.ber.proofs.HeaderLaws.{Bounds, header-bounds}
 use Rattle.ber.proofs.HeaderFacts.{header-prefix}
-use Rattle.ber.proofs.ElementLaws.{good-size, size-good, element-bounds, Element, element-facts, element-made, size-well-formed}
+use Rattle.ber.proofs.ElementLaws.{good-size, size-good, element-bounds, Element, element-facts, element-made, well-formed-size, size-well-formed}
 
 part-prefix : (p r t : List ℕ) (a e : ℕ) → a ≤ e → e ≤ length p → part (p ++ r) a e ≡ part (p ++ t) a e
 part-prefix p r t a e o h =
@@ -93,3 +93,9 @@ element-more (suc d) s n q =
           (λ _ e. e)
           (ap (λ (k : ℕ). cond (constructed (f .id)) (contentsOf k (part s (f .a) n)) true) (sym o) ∙ f .inside);
     })
+
+pub well-formed-more : (d k : ℕ) (s : List ℕ) → wellFormed d s ≡ true → wellFormed (d + k) s ≡ true
+well-formed-more d zero s q = let e : d + 0 ≡ d = omega arith in rw e q
+well-formed-more d (suc k) s q =
+    let e : d + suc k ≡ suc (d + k) = omega arith in
+    rw e (size-well-formed (suc (d + k)) s (element-more (d + k) s (length s) (well-formed-size (d + k) s (well-formed-more d k s q))))

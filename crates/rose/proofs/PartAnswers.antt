@@ -1,13 +1,13 @@
 -- What each way through the shared parts of request.rt answers: the linked id, the value and the size.
-use Prim.Native.Nat.{ℕ, _-_, _≤_, _<_}
+use Prim.Native.Nat.{ℕ, _+_, _-_, _≤_, _<_}
 use mathlib.Core.Path.{_≡_, refl, sym, ap, _∙_}
-use mathlib.Core.Bool.{true, false}
+use mathlib.Core.Bool.{Bool, true, false}
 use mathlib.Core.List.{List, [], _∷_}
-use mathlib.Core.Option.{Option}
+use mathlib.Core.Option.{Option, some, none}
 use native.Mathlib.Omega.{arith}
 use lib.ListN.{length}
 use lib.Dec.{leb}
-use borrow.Author.Tests.{lt-leb, le-leb, lt-ltb, le-ltb}
+use borrow.Author.Tests.{lt-leb, le-leb, lt-ltb, le-ltb, leb-true, leb-false}
 use Rattle.base.proofs.Tests.{and-false-left, and-false-right}
 use Rattle.records.specs.declared.Code.{Code}
 use Rattle.records.specs.declared.PeerId.{PeerId}
@@ -18,6 +18,7 @@ use Rattle.optable.specs.declared.Rule.{Rule}
 use Rattle.optable.specs.Lookup.{childOf}
 use Rattle.optable.specs.Value.{valueRight}
 use Rattle.ber.specs.Element.{given, wellFormed}
+use Rattle.ber.proofs.Locality.{well-formed-more}
 use Rattle.apdu.specs.declared.Number.the-variants.{Of, Absent}
 use Rattle.protocol.specs.declared.Refusal.the-variants.{ShortOutput, UnknownLinkedId, NotAChild, MalformedValue, MistypedValue, LargeApdu}
 use Rattle.protocol.specs.Check.{peerRecords, codeIn, valueWell, withinLimits}
@@ -39,6 +40,22 @@ pub well-some : (d : ℕ) (v : List ℕ) → (length v ≡ 0 → ⊥) → wellFo
 unfolding valueWell given
 well-some d [] h = absurd (h refl)
 well-some d (b ∷ v) h = refl
+
+-- well-formed some levels down is well-formed at the full levels
+pub well-at-all : (down : ℕ) (v : Option (List ℕ)) → valueWell (levels - down) v ≡ true → valueWell levels v ≡ true
+unfolding valueWell
+well-at-all down none h = refl
+well-at-all down (some v) h = go (leb down levels) refl
+  where
+    go : (b : Bool) → leb down levels ≡ b → wellFormed levels v ≡ true
+    go true e =
+        let p = leb-true down levels e in
+        let q : levels - down + down ≡ levels = omega arith in
+        rw q at (well-formed-more (levels - down) down v h)
+    go false e =
+        let p = leb-false down levels e in
+        let q : levels - down + levels ≡ levels = omega arith in
+        rw q at (well-formed-more (levels - down) levels v h)
 
 -- ---- 7 and 8
 

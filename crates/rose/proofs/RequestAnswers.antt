@@ -1,5 +1,5 @@
 -- What each way through the checks of request.rt answers.
-use Prim.Native.Nat.{ℕ, _-_, _≤_, _<_}
+use Prim.Native.Nat.{ℕ, _≤_, _<_}
 use mathlib.Core.Path.{_≡_, refl, sym, ap, subst, _∙_}
 use mathlib.Core.Bool.{Bool, true, false, not, _&&_}
 use mathlib.Core.List.{List, _∷_, _++_}
@@ -21,7 +21,7 @@ use Rattle.apdu.specs.declared.Number.{Number}
 use Rattle.apdu.specs.declared.Number.the-variants.{Of}
 use Rattle.apdu.specs.Encode.{encodeInvoke, encodeError, encodeReject}
 use Rattle.protocol.specs.declared.Refusal.the-variants.{ShortOutput, UnknownOperation, IdInUse, SynchronousLive, NoRecord, WrongClass, UnlistedError, RecordsFull, WrongProblem}
-use Rattle.protocol.specs.Call.{Refusal, invoke, result, error, reject, forget, own, peer}
+use Rattle.protocol.specs.Call.{Refusal, invoke, result, error, reject}
 use Rattle.protocol.specs.Check.{Check, _⇐_, ownRecords, peerRecords, codeIn, isFull, isClass, isBusy}
 use Rattle.protocol.specs.Perform.{laterChecks, isUserProblem, resultApdu}
 use Rattle.protocol.specs.Reading.{readRefusal}
@@ -183,30 +183,6 @@ module _ (T : List ℕ) (s : State) (i p room : ℕ) where
       pub reject-fits : size ≤ room → readVerdict Passes ≡ first (laterChecks T s (reject i p room))
       unfolding readVerdict laterChecks
       reject-fits q = rw (h, m, le-ltb room (length (encodeReject (Of i) 0x81 p)) (omega arith)) refl
-
--- ---- forget: 11, 12
-
-module _ (T : List ℕ) (s : State) (i : ℕ) where
-  pub forget-own : member i (ownRecords s) ≡ true → readVerdict Passes ≡ first (laterChecks T s (forget own i))
-  unfolding readVerdict laterChecks
-  forget-own h = rw h refl
-
-  pub forget-no-own : member i (ownRecords s) ≡ false → readVerdict (Fails NoRecord) ≡ first (laterChecks T s (forget own i))
-  unfolding readVerdict readRefusal laterChecks
-  forget-no-own h = rw h refl
-
-  pub forget-no-peer : member i (peerRecords s) ≡ false → readVerdict (Fails NoRecord) ≡ first (laterChecks T s (forget peer i))
-  unfolding readVerdict readRefusal laterChecks
-  forget-no-peer h = rw h refl
-
-  module _ (h : member i (peerRecords s) ≡ true) (o : Named) (e : o ≡ operationOf T (codeIn (peerRecords s) i)) where
-    pub forget-class : isClass 1 2 (classOf o) ≡ true → readVerdict (Fails WrongClass) ≡ first (laterChecks T s (forget peer i))
-    unfolding readVerdict readRefusal laterChecks
-    forget-class k = rw (h, ap (λ (n : Named). isClass 1 2 (classOf n)) (sym e) ∙ k) refl
-
-    pub forget-peer : isClass 1 2 (classOf o) ≡ false → readVerdict Passes ≡ first (laterChecks T s (forget peer i))
-    unfolding readVerdict laterChecks
-    forget-peer k = rw (h, ap (λ (n : Named). isClass 1 2 (classOf n)) (sym e) ∙ k) refl
 
 -- ---- problems that a user may give
 

@@ -114,14 +114,14 @@ opened-valid T s e = and-left _ _ (not-false (valid T && (covered T (ownRecords 
 
 -- ---- a record more, unless the class makes none
 
-module _ (T : List ℕ) (s : State) (c : Code) (o : Named) (e : o ≡ operationOf T c) where
-  silent-is : (b : Bool) → eqb (classOf o) 5 ≡ b → isSilent T c ≡ b
-  silent-is b q = ap (λ (n : Named). eqb (classOf n) 5) (sym e) ∙ q
+module _ (T : List ℕ) (s : State) (c : Code) (class : ℕ) (e : class ≡ classOf (operationOf T c)) where
+  silent-is : (b : Bool) → eqb class 5 ≡ b → isSilent T c ≡ b
+  silent-is b q = ap (λ (n : ℕ). eqb n 5) (sym e) ∙ q
 
   -- t is the state with the record
   module _ (t : State) where
-    pub no-record : classOf o ≡ 5 → s ≡ cond (isSilent T c) s t
-    no-record h = cond-true s t (silent-is true (eq-eqb (classOf o) 5 h))
+    pub no-record : class ≡ 5 → s ≡ cond (isSilent T c) s t
+    no-record h = cond-true s t (silent-is true (eq-eqb class 5 h))
 
-    pub one-record : (classOf o ≡ 5 → ⊥) → t ≡ cond (isSilent T c) s t
-    one-record h = cond-false s t (silent-is false (ne-eqb (classOf o) 5 h))
+    pub one-record : (class ≡ 5 → ⊥) → t ≡ cond (isSilent T c) s t
+    one-record h = cond-false s t (silent-is false (ne-eqb class 5 h))

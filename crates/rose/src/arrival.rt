@@ -5,6 +5,7 @@ use crate::problem::check_invoke;
 use crate::problem::check_result;
 use crate::problem::field_code;
 use crate::usable::code_found;
+use crate::usable::operation_named;
 use crate::usable::own_found;
 use crate::usable::with_peer;
 use apdu::Body;
@@ -106,11 +107,12 @@ fn arrive_invoke(
     requires { ⌜ valid (now table) ≡ true ⌝ }
     ensures { λ r. ⌜ Arrives (now (table .entry)) state (now (x .entry)) (invoke id linked field (readValue (now (x .entry)) value)) r ⌝ }
 {
-    match check_invoke(state, table, x, id, linked, field, value) {
+    let code = field_code(field);
+    let named = operation_named(table, code);
+    match check_invoke(state, table, x, named, id, linked, field, value) {
         Verdict::Fails(why) => refused(state, why),
         Verdict::Passes => {
-            let code = field_code(field);
-            let next = with_peer(state, table, PeerId(id), code);
+            let next = with_peer(state, named.class(), PeerId(id), code);
             indicated(
                 next,
                 Indication::Invoke {

@@ -1,10 +1,11 @@
 // The checks of forget behind 19 and 1, and the state without the record.
 use crate::Verdict;
+use crate::usable::code_found;
 use crate::usable::has_own;
-use crate::usable::has_peer;
 use crate::usable::is_class;
+use crate::usable::is_found;
 use crate::usable::operation_named;
-use crate::usable::peer_code;
+use crate::usable::peer_found;
 use protocol::Invocation;
 use protocol::Refusal;
 use records::OwnId;
@@ -22,10 +23,11 @@ fn check_forget_peer(state: State, table: &[u8], id: PeerId) -> Verdict
     requires { ⌜ valid (now table) ≡ true ⌝ }
     ensures { λ r. ⌜ readVerdict r ≡ first (laterChecks (now (table .entry)) state (forget peer (id .0))) ⌝ }
 {
-    if !has_peer(state, id) {
+    let found = peer_found(state, id);
+    if !is_found(found) {
         return Verdict::Fails(Refusal::NoRecord);
     }
-    let used = operation_named(table, peer_code(state, id));
+    let used = operation_named(table, code_found(found));
     if is_class(1, 2, used.class()) {
         return Verdict::Fails(Refusal::WrongClass);
     }

@@ -31,6 +31,7 @@ use request::check_result;
 use request::link_number;
 use usable::code_found;
 use usable::opening;
+use usable::operation_named;
 use usable::peer_found;
 use usable::with_own;
 ghost use mathlib.Core.Path.{_≡_};
@@ -137,14 +138,15 @@ pub fn invoke(
         }
         Verdict::Passes => {}
     }
-    match check_invoke(state, table, id, code, linked, value, out.len()) {
+    let named = operation_named(table, code);
+    match check_invoke(state, table, named, id, code, linked, value, out.len()) {
         Verdict::Fails(why) => {
             return refused(state, why);
         }
         Verdict::Passes => {}
     }
     let written = write_invoke(out, id.0, link_number(linked), code, value);
-    accepted(with_own(state, table, id, code), written)
+    accepted(with_own(state, named.class(), id, code), written)
 }
 
 // Answers an invocation of the peer's with a result; an empty value is none.

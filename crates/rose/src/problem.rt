@@ -3,18 +3,18 @@ use crate::Verdict;
 use crate::usable::code_found;
 use crate::usable::error_named;
 use crate::usable::fails;
-use crate::usable::has_own;
 use crate::usable::has_peer;
 use crate::usable::is_class;
 use crate::usable::is_found;
 use crate::usable::lacks_room;
 use crate::usable::operation_named;
-use crate::usable::own_code;
+use crate::usable::own_found;
 use apdu::Body;
 use apdu::CodeField;
 use apdu::Number;
 use apdu::Value;
 use apdu::parse::octets_of;
+use optable::Operation;
 use optable::Rule;
 use optable::has_child;
 use optable::is_child;
@@ -36,6 +36,7 @@ ghost use Rattle.records.specs.Records.{lookup};
 ghost use Rattle.protocol.specs.Call.{rejecting};
 ghost use Rattle.protocol.specs.Check.{ownRecords};
 ghost use Rattle.optable.specs.Validity.{valid};
+ghost use Rattle.optable.specs.Lookup.{operationOf};
 ghost use Rattle.optable.specs.Value.{valueRight};
 ghost use Rattle.apdu.specs.Reading.{readValue, readBody};
 ghost use Rattle.protocol.specs.Receive.{fieldCode, bodyValue, otherCode, invokeChecks, resultChecks, errorChecks};
@@ -92,10 +93,11 @@ fn check_parent(state: State, table: &[u8], id: u32, linked: Number) -> Verdict
     match linked {
         Number::Absent => Verdict::Passes,
         Number::Of(to) => {
-            if !has_own(state, OwnId(to)) {
+            let found = own_found(state, OwnId(to));
+            if !is_found(found) {
                 return problem(id, 0x81, 5);
             }
-            if !has_child(table, own_code(state, OwnId(to))) {
+            if !has_child(table, code_found(found)) {
                 return problem(id, 0x81, 6);
             }
             Verdict::Passes
@@ -111,7 +113,8 @@ fn check_child(state: State, table: &[u8], id: u32, linked: Number, code: Code) 
     match linked {
         Number::Absent => Verdict::Passes,
         Number::Of(to) => {
-            if is_child(table, own_code(state, OwnId(to)), code) {
+            let found = own_found(state, OwnId(to));
+            if is_child(table, code_found(found), code) {
                 return Verdict::Passes;
             }
             problem(id, 0x81, 7)
@@ -119,16 +122,18 @@ fn check_child(state: State, table: &[u8], id: u32, linked: Number, code: Code) 
     }
 }
 
+// Given the operation of the field's code.
 pub(crate) fn check_invoke(
     state: State,
     table: &[u8],
     x: &[u8],
+    named: Operation,
     id: u32,
     linked: Number,
     field: CodeField,
     value: Value,
 ) -> Verdict
-    requires { ⌜ valid (now table) ≡ true ⌝ }
+    requires { ⌜ (valid (now table) ≡ true) × (named ≡ operationOf (now table) (fieldCode field)) ⌝ }
     ensures { λ r. ⌜ readVerdict r ≡ first (invokeChecks (now (table .entry)) state id linked field (readValue (now (x .entry)) value)) ⌝ }
 {
     if has_peer(state, PeerId(id)) {
@@ -138,8 +143,6 @@ pub(crate) fn check_invoke(
     if fails(parent) {
         return parent;
     }
-    let code = field_code(field);
-    let named = operation_named(table, code);
     if !is_local(field) {
         return problem(id, 0x81, 1);
     }
@@ -149,12 +152,11 @@ pub(crate) fn check_invoke(
     if !is_right(named.argument(), x, value) {
         return problem(id, 0x81, 2);
     }
-    let child = check_child(state, table, id, linked, code);
+    let child = check_child(state, table, id, linked, field_code(field));
     if fails(child) {
         return child;
     }
-    let peer = state.peer;
-    if lacks_room(named.class(), peer) {
+    if lacks_room(named.class(), state.peer) {
         return problem(id, 0x81, 3);
     }
     Verdict::Passes

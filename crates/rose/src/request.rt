@@ -4,19 +4,19 @@ use crate::usable::code_found;
 use crate::usable::error_named;
 use crate::usable::fails;
 use crate::usable::has_own;
-use crate::usable::has_peer;
 use crate::usable::is_busy;
 use crate::usable::is_class;
 use crate::usable::is_found;
 use crate::usable::lacks_room;
 use crate::usable::operation_named;
-use crate::usable::peer_code;
+use crate::usable::peer_found;
 use apdu::Number;
 use apdu::encode::error_size;
 use apdu::encode::invoke_size;
 use apdu::encode::reject_size;
 use apdu::encode::result_size;
 use ber::element::well_formed;
+use optable::Operation;
 use optable::Rule;
 use optable::is_child;
 use optable::is_paired;
@@ -31,9 +31,12 @@ use records::State;
 ghost use mathlib.Core.Path.{_≡_};
 ghost use mathlib.Core.Bool.{true};
 ghost use mathlib.Core.List.{List};
-ghost use Prim.Native.Nat.{ℕ, _≤_};
+ghost use mathlib.Core.Option.{Option};
+ghost use Prim.Native.Nat.{ℕ, _-_};
 ghost use lib.ListN.{length};
+ghost use Rattle.records.specs.Limits.{levels};
 ghost use Rattle.optable.specs.Validity.{valid};
+ghost use Rattle.optable.specs.Lookup.{operationOf};
 ghost use Rattle.ber.specs.Element.{given};
 ghost use Rattle.protocol.specs.Call.{invoke, result, error, reject, own};
 ghost use Rattle.records.specs.Records.{lookup};
@@ -61,6 +64,16 @@ fn is_well(value: &[u8], levels: usize) -> bool
     well_formed(value, levels)
 }
 
+// Whether a value is well-formed: it is at the full levels if it is at fewer, as `fits` says, and then there is no second walk.
+fn is_well_formed(value: &[u8], fits: bool) -> bool
+    ensures { λ r. ⌜ ((down : ℕ) → fits ≡ valueWell (levels - down) (given (now (value .entry))) → r ≡ valueWell levels (given (now (value .entry)))) ⌝ }
+{
+    if fits {
+        return true;
+    }
+    is_well(value, State::LEVELS)
+}
+
 // 7 and 8: the parent is a peer record, and the operation its listed child.
 fn check_linked(state: State, table: &[u8], linked: PeerLink, code: Code) -> Verdict
     requires { ⌜ valid (now table) ≡ true ⌝ }
@@ -69,10 +82,11 @@ fn check_linked(state: State, table: &[u8], linked: PeerLink, code: Code) -> Ver
     match linked {
         PeerLink::Absent => Verdict::Passes,
         PeerLink::To(id) => {
-            if !has_peer(state, id) {
+            let found = peer_found(state, id);
+            if !is_found(found) {
                 return Verdict::Fails(Refusal::UnknownLinkedId);
             }
-            if !is_child(table, peer_code(state, id), code) {
+            if !is_child(table, code_found(found), code) {
                 return Verdict::Fails(Refusal::NotAChild);
             }
             Verdict::Passes
@@ -80,11 +94,11 @@ fn check_linked(state: State, table: &[u8], linked: PeerLink, code: Code) -> Ver
     }
 }
 
-// 9 and 10.
-fn check_value(rule: Rule, value: &[u8]) -> Verdict
-    ensures { λ r. ⌜ readVerdict r ≡ first (valueChecks rule (given (now (value .entry)))) ⌝ }
+// 9 and 10, of a value of which `fits` says whether it is well-formed so many levels down.
+fn check_value(rule: Rule, value: &[u8], fits: bool) -> Verdict
+    ensures { λ r. ⌜ ((down : ℕ) → fits ≡ valueWell (levels - down) (given (now (value .entry))) → readVerdict r ≡ first (valueChecks rule (given (now (value .entry))))) ⌝ }
 {
-    if !is_well(value, State::LEVELS) {
+    if !is_well_formed(value, fits) {
         return Verdict::Fails(Refusal::MalformedValue);
     }
     if !value_right(rule, value) {
@@ -93,15 +107,14 @@ fn check_value(rule: Rule, value: &[u8]) -> Verdict
     Verdict::Passes
 }
 
-// 15 and 2, of an APDU of so many octets in which the value stands so many levels down.
-fn check_size(down: usize, value: &[u8], size: usize, room: usize) -> Verdict
-    requires { ⌜ down ≤ 2 ⌝ }
-    ensures { λ r. ⌜ ((x : List ℕ) → size ≡ length x → readVerdict r ≡ first (sizeChecks down (given (now (value .entry))) x room)) ⌝ }
+// 15 and 2, of an APDU of so many octets with such a value in it.
+fn check_size(fits: bool, size: usize, room: usize) -> Verdict
+    ensures { λ r. ⌜ ((down : ℕ) (v : Option (List ℕ)) (x : List ℕ) → fits ≡ valueWell (levels - down) v → size ≡ length x → readVerdict r ≡ first (sizeChecks down v x room)) ⌝ }
 {
     if size > State::OCTETS {
         return Verdict::Fails(Refusal::LargeApdu);
     }
-    if !is_well(value, State::LEVELS - down) {
+    if !fits {
         return Verdict::Fails(Refusal::LargeApdu);
     }
     if room < size {
@@ -110,19 +123,20 @@ fn check_size(down: usize, value: &[u8], size: usize, room: usize) -> Verdict
     Verdict::Passes
 }
 
+// Given the operation of the code.
 pub(crate) fn check_invoke(
     state: State,
     table: &[u8],
+    named: Operation,
     id: OwnId,
     code: Code,
     linked: PeerLink,
     value: &[u8],
     room: usize,
 ) -> Verdict
-    requires { ⌜ valid (now table) ≡ true ⌝ }
+    requires { ⌜ (valid (now table) ≡ true) × (named ≡ operationOf (now table) code) ⌝ }
     ensures { λ r. ⌜ readVerdict r ≡ first (laterChecks (now (table .entry)) state (invoke (id .0) code (readPeerLink linked) (now (value .entry)) room)) ⌝ }
 {
-    let named = operation_named(table, code);
     if !named.is_listed() {
         return Verdict::Fails(Refusal::UnknownOperation);
     }
@@ -137,7 +151,8 @@ pub(crate) fn check_invoke(
     if fails(link) {
         return link;
     }
-    let right = check_value(named.argument(), value);
+    let fits = is_well(value, State::LEVELS - 1);
+    let right = check_value(named.argument(), value, fits);
     if fails(right) {
         return right;
     }
@@ -145,7 +160,7 @@ pub(crate) fn check_invoke(
         return Verdict::Fails(Refusal::RecordsFull);
     }
     let size = invoke_size(id.0, link_number(linked), code, value);
-    check_size(1, value, size, room)
+    check_size(fits, size, room)
 }
 
 // Given the peer record of the id: the state itself is not passed on.
@@ -167,11 +182,12 @@ pub(crate) fn check_result(
     if is_class(3, 5, named.class()) {
         return Verdict::Fails(Refusal::WrongClass);
     }
-    let right = check_value(named.result(), value);
+    let fits = is_well(value, State::LEVELS - 2);
+    let right = check_value(named.result(), value, fits);
     if fails(right) {
         return right;
     }
-    check_size(2, value, result_size(id.0, code, value), room)
+    check_size(fits, result_size(id.0, code, value), room)
 }
 
 pub(crate) fn check_error(
@@ -200,11 +216,12 @@ pub(crate) fn check_error(
     if !is_paired(table, operated, code) {
         return Verdict::Fails(Refusal::UnlistedError);
     }
-    let right = check_value(named.parameter(), value);
+    let fits = is_well(value, State::LEVELS - 1);
+    let right = check_value(named.parameter(), value, fits);
     if fails(right) {
         return right;
     }
-    check_size(1, value, error_size(id.0, code, value), room)
+    check_size(fits, error_size(id.0, code, value), room)
 }
 
 fn is_user_problem(problem: u8) -> bool

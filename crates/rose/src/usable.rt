@@ -13,12 +13,14 @@ use records::PeerId;
 use records::Records;
 use records::State;
 ghost use mathlib.Core.Path.{_≡_};
+ghost use mathlib.Core.List.{List};
+ghost use Prim.Native.Nat.{ℕ};
 ghost use Rattle.records.specs.Records.{view, lookup, member};
 ghost use Rattle.optable.specs.Validity.{valid};
-ghost use Rattle.optable.specs.Lookup.{operationOf, errorOf};
+ghost use Rattle.optable.specs.Lookup.{operationOf, classOf, errorOf};
 ghost use mathlib.Core.Bool.{true, not, _&&_};
 ghost use lib.Dec.{eqb};
-ghost use Rattle.protocol.specs.Check.{codeFound, codeIn, ownRecords, peerRecords, isClass, isFull, covered, isBusy, shared};
+ghost use Rattle.protocol.specs.Check.{codeFound, ownRecords, peerRecords, isClass, isFull, covered, isBusy, shared};
 ghost use Rattle.protocol.specs.Perform.{withOwn};
 ghost use Rattle.protocol.specs.Receive.{withPeer};
 ghost use Rattle.rose.specs.Verdict.{first, readVerdict, isFailing, isFound};
@@ -127,59 +129,33 @@ pub(crate) fn peer_found(state: State, id: PeerId) -> Found
 pub(crate) fn has_own(state: State, id: OwnId) -> bool
     ensures { λ r. ⌜ r ≡ member (id .0) (ownRecords state) ⌝ }
 {
-    let looked = state.find_own(id);
-    let found = looked.found;
-    is_found(found)
+    is_found(own_found(state, id))
 }
 
 pub(crate) fn has_peer(state: State, id: PeerId) -> bool
     ensures { λ r. ⌜ r ≡ member (id .0) (peerRecords state) ⌝ }
 {
-    let looked = state.find_peer(id);
-    let found = looked.found;
-    is_found(found)
+    is_found(peer_found(state, id))
 }
 
-// The state with an own record more, unless the class makes none.
-pub(crate) fn with_own(state: State, table: &[u8], id: OwnId, code: Code) -> State
-    requires { ⌜ valid (now table) ≡ true ⌝ }
-    ensures { λ r. ⌜ r ≡ withOwn (now (table .entry)) state (id .0) code ⌝ }
+// The state with an own record more, unless the class of its operation makes none.
+pub(crate) fn with_own(state: State, class: u8, id: OwnId, code: Code) -> State
+    ensures { λ r. ⌜ ((T : List ℕ) → class ≡ classOf (operationOf T code) → r ≡ withOwn T state (id .0) code) ⌝ }
 {
-    let named = operation_named(table, code);
-    if named.class() == 5 {
+    if class == 5 {
         return state;
     }
     state.add_own(id, code)
 }
 
-// The state with a peer record more, unless the class makes none.
-pub(crate) fn with_peer(state: State, table: &[u8], id: PeerId, code: Code) -> State
-    requires { ⌜ valid (now table) ≡ true ⌝ }
-    ensures { λ r. ⌜ r ≡ withPeer (now (table .entry)) state (id .0) code ⌝ }
+// The state with a peer record more, unless the class of its operation makes none.
+pub(crate) fn with_peer(state: State, class: u8, id: PeerId, code: Code) -> State
+    ensures { λ r. ⌜ ((T : List ℕ) → class ≡ classOf (operationOf T code) → r ≡ withPeer T state (id .0) code) ⌝ }
 {
-    let named = operation_named(table, code);
-    if named.class() == 5 {
+    if class == 5 {
         return state;
     }
     state.add_peer(id, code)
-}
-
-// The operation code of an own record, 0 where there is none.
-pub(crate) fn own_code(state: State, id: OwnId) -> Code
-    ensures { λ r. ⌜ r ≡ codeIn (ownRecords state) (id .0) ⌝ }
-{
-    let looked = state.find_own(id);
-    let found = looked.found;
-    code_found(found)
-}
-
-// The operation code of a peer record, 0 where there is none.
-pub(crate) fn peer_code(state: State, id: PeerId) -> Code
-    ensures { λ r. ⌜ r ≡ codeIn (peerRecords state) (id .0) ⌝ }
-{
-    let looked = state.find_peer(id);
-    let found = looked.found;
-    code_found(found)
 }
 
 // Whether a class that makes a record finds its side full.

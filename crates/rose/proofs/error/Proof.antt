@@ -24,9 +24,7 @@ refused-requires c κs = search needs
 
 returns : tie.Need-returns
 returns c =
-    let why = c .before .before in
-    let opening = why .before .before in
-    let start = opening .before .before .before .before in
+    let why = c .before .before in let opening = why .before .before in let start = opening .before .before .before .before in
     opening-refused (start .args .table .now) (start .args .state)
     (error (start .args .id .0) (start .args .code) (start .args .value .now) (length (start .args .out .now))) (opening .opening .result)
     (opening .opening .ensures) (why .why .given .0 .0) (cc) (start .args .out .now) _ (c .refused .ensures)
@@ -39,8 +37,7 @@ peer-found-requires c κs = search needs
 
 check-error-requires : tie.Need-check-error-requires
 check-error-requires c κs =
-    let opening = c .before .before .before in
-    let start = opening .before .before .before .before in
+    let opening = c .before .before .before in let start = opening .before .before .before .before in
     opened-valid (start .args .table .now) (start .args .state)
     (verdict-passes (opening .opening .result) (shared (start .args .table .now) (start .args .state)) (opening .opening .ensures) (cc))
 
@@ -52,11 +49,8 @@ refused-requires-2 c κs = search needs
 
 returns-2 : tie.Need-returns-2
 returns-2 c =
-    let why2 = c .before .before in
-    let check-error = why2 .before .before in
-    let peer-found = check-error .before in
-    let opening = peer-found .before .before .before in
-    let start = opening .before .before .before .before in
+    let why2 = c .before .before in let check-error = why2 .before .before in let peer-found = check-error .before in
+    let opening = peer-found .before .before .before in let start = opening .before .before .before .before in
     later-refused (start .args .table .now) (start .args .state)
     (error (start .args .id .0) (start .args .code) (start .args .value .now) (length (start .args .out .now))) (opening .opening .result)
     (opening .opening .ensures) (cc) (why2 .why2 .given .0 .0)
@@ -87,14 +81,9 @@ checked a = cc
 
 returns-3 : tie.Need-returns-3
 returns-3 c =
-    let retire-peer = c .before in
-    let write-error = retire-peer .before .before .before in
-    let told2 = write-error .before .before in
-    let check-error = told2 .before .before in
-    let peer-found = check-error .before in
-    let told = peer-found .before in
-    let opening = told .before .before in
-    let start = opening .before .before .before .before in
+    let retire-peer = c .before in let write-error = retire-peer .before .before .before in let told2 = write-error .before .before in
+    let check-error = told2 .before .before in let peer-found = check-error .before in let told = peer-found .before in
+    let opening = told .before .before in let start = opening .before .before .before .before in
     error-accepted (start .args .table .now) (start .args .state) (opening .opening .result) (opening .opening .ensures) (opened told) (start .args .out .now)
     _ _ (retire-peer .retire-peer .result) _ (c .accepted .ensures) (start .args .id .0) (start .args .value .now) (start .args .code)
     (verdict-passes (check-error .check-error .result) (laterChecks (start .args .table .now) (start .args .state) (error (start .args .id .0) (start .args .code) (start .args .value .now) (length (start .args .out .now)))) (check-error .check-error .ensures (start .args .state) (peer-found .peer-found .ensures)) (checked told2))

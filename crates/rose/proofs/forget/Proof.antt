@@ -22,9 +22,7 @@ refused-requires c κs = search needs
 
 returns : tie.Need-returns
 returns c =
-    let why = c .before .before in
-    let opening = why .before .before in
-    let start = opening .before .before in
+    let why = c .before .before in let opening = why .before .before in let start = opening .before .before in
     opening-refused (start .args .table .now) (start .args .state) (forgetting (start .args .invocation)) (opening .opening .result)
     (opening .opening .ensures) (why .why .given .0 .0) (cc) [] _ (c .refused .ensures)
 
@@ -33,8 +31,7 @@ enum-told c = search needs
 
 check-forget-requires : tie.Need-check-forget-requires
 check-forget-requires c κs =
-    let opening = c .before .before in
-    let start = opening .before .before in
+    let opening = c .before .before in let start = opening .before .before in
     opened-valid (start .args .table .now) (start .args .state)
     (verdict-passes (opening .opening .result) (shared (start .args .table .now) (start .args .state)) (opening .opening .ensures) (cc))
 
@@ -46,9 +43,7 @@ refused-requires-2 c κs = search needs
 
 returns-2 : tie.Need-returns-2
 returns-2 c =
-    let why2 = c .before .before in
-    let check-forget = why2 .before .before in
-    let opening = check-forget .before .before .before in
+    let why2 = c .before .before in let check-forget = why2 .before .before in let opening = check-forget .before .before .before in
     let start = opening .before .before in
     later-refused (start .args .table .now) (start .args .state) (forgetting (start .args .invocation)) (opening .opening .result)
     (opening .opening .ensures) (cc) (why2 .why2 .given .0 .0)
@@ -66,9 +61,7 @@ accepted-requires c κs = search needs
 
 returns-3 : tie.Need-returns-3
 returns-3 c =
-    let forgotten = c .before in
-    let check-forget = forgotten .before .before .before in
-    let opening = check-forget .before .before .before in
+    let forgotten = c .before in let check-forget = forgotten .before .before .before in let opening = check-forget .before .before .before in
     let start = opening .before .before in
     forget-accepted (start .args .table .now) (start .args .state) (start .args .invocation) (opening .opening .result) (opening .opening .ensures)
     (cc)

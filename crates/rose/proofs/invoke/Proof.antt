@@ -1,6 +1,9 @@
 -- 19 and 1, the checks of its own, or the APDU and the new state.
-use mathlib.Core.Path.{_≡_}
-use Rattle.rose.specs.declared.Verdict.the-variants.{Passes}
+use mathlib.Core.Path.{_≡_, ap, _∙_}
+use mathlib.Core.Bool.{true}
+use Rattle.optable.specs.Validity.{valid}
+use Rattle.optable.specs.Lookup.{classOf}
+use Rattle.rose.specs.declared.Verdict.the-variants.{Passes, Fails}
 use lib.ListN.{length}
 use Rattle.protocol.specs.Call.{invoke}
 use Rattle.protocol.specs.Perform.{laterChecks}
@@ -25,9 +28,7 @@ refused-requires c κs = search needs
 
 returns : tie.Need-returns
 returns c =
-    let why = c .before .before in
-    let opening = why .before .before in
-    let start = opening .before .before .before .before in
+    let why = c .before .before in let opening = why .before .before in let start = opening .before .before .before .before in
     opening-refused (start .args .table .now) (start .args .state)
     (invoke (start .args .id .0) (start .args .code) (readPeerLink (start .args .linked)) (start .args .value .now) (length (start .args .out .now)))
     (opening .opening .result) (opening .opening .ensures) (why .why .given .0 .0) (cc) (start .args .out .now) _ (c .refused .ensures)
@@ -35,12 +36,20 @@ returns c =
 enum-told : tie.Need-enum-told
 enum-told c = search needs
 
-check-invoke-requires : tie.Need-check-invoke-requires
-check-invoke-requires c κs =
-    let opening = c .before .before in
-    let start = opening .before .before .before .before in
+opened : (a : tie.After-enum-told) → a .before .before .opening .result ≡ Passes
+opened a = cc
+
+opened-table : (a : tie.After-enum-told) → valid (a .before .before .before .before .before .before .args .table .now) ≡ true
+opened-table a =
+    let opening = a .before .before in let start = opening .before .before .before .before in
     opened-valid (start .args .table .now) (start .args .state)
-    (verdict-passes (opening .opening .result) (shared (start .args .table .now) (start .args .state)) (opening .opening .ensures) (cc))
+    (verdict-passes (opening .opening .result) (shared (start .args .table .now) (start .args .state)) (opening .opening .ensures) (opened a))
+
+operation-named-requires : tie.Need-operation-named-requires
+operation-named-requires c κs = opened-table c
+
+check-invoke-requires : tie.Need-check-invoke-requires
+check-invoke-requires c κs = (opened-table (c .before), c .operation-named .ensures)
 
 enum-known-why-2 : tie.Need-enum-known-why-2
 enum-known-why-2 c = search needs
@@ -48,16 +57,17 @@ enum-known-why-2 c = search needs
 refused-requires-2 : tie.Need-refused-requires-2
 refused-requires-2 c κs = search needs
 
+failed : (a : tie.After-why2) → a .before .before .check-invoke .result ≡ Fails (a .why2 .given .0 .0)
+failed a = cc
+
 returns-2 : tie.Need-returns-2
 returns-2 c =
-    let why2 = c .before .before in
-    let check-invoke = why2 .before .before in
-    let opening = check-invoke .before .before .before in
-    let start = opening .before .before .before .before in
+    let why2 = c .before .before in let check-invoke = why2 .before .before in let told = check-invoke .before .before in
+    let opening = told .before .before in let start = opening .before .before .before .before in
     later-refused (start .args .table .now) (start .args .state)
     (invoke (start .args .id .0) (start .args .code) (readPeerLink (start .args .linked)) (start .args .value .now) (length (start .args .out .now)))
-    (opening .opening .result) (opening .opening .ensures) (cc) (why2 .why2 .given .0 .0)
-    (verdict-fails (check-invoke .check-invoke .result) (laterChecks (start .args .table .now) (start .args .state) (invoke (start .args .id .0) (start .args .code) (readPeerLink (start .args .linked)) (start .args .value .now) (length (start .args .out .now)))) (why2 .why2 .given .0 .0) (check-invoke .check-invoke .ensures) (cc))
+    (opening .opening .result) (opening .opening .ensures) (opened told) (why2 .why2 .given .0 .0)
+    (verdict-fails (check-invoke .check-invoke .result) (laterChecks (start .args .table .now) (start .args .state) (invoke (start .args .id .0) (start .args .code) (readPeerLink (start .args .linked)) (start .args .value .now) (length (start .args .out .now)))) (why2 .why2 .given .0 .0) (check-invoke .check-invoke .ensures) (failed why2))
     (invoke-plain (start .args .table .now) (start .args .state) (start .args .id .0) (start .args .value .now) (length (start .args .out .now)) (start .args .code) (readPeerLink (start .args .linked)))
     (start .args .out .now) _ (c .refused2 .ensures)
 
@@ -70,16 +80,11 @@ link-number-requires c κs = search needs
 write-invoke-requires : tie.Need-write-invoke-requires
 write-invoke-requires c κs = search needs
 
-opened : (a : tie.After-enum-told) → a .before .before .opening .result ≡ Passes
-opened a = cc
+class-requires : tie.Need-class-requires
+class-requires c κs = search needs
 
 with-own-requires : tie.Need-with-own-requires
-with-own-requires c κs =
-    let told = c .before .before .before .before .before .before .before .before in
-    let opening = told .before .before in
-    let start = opening .before .before .before .before in
-    opened-valid (start .args .table .now) (start .args .state)
-    (verdict-passes (opening .opening .result) (shared (start .args .table .now) (start .args .state)) (opening .opening .ensures) (opened told))
+with-own-requires c κs = search needs
 
 accepted-requires : tie.Need-accepted-requires
 accepted-requires c κs = search needs
@@ -92,19 +97,15 @@ checked a = cc
 
 returns-3 : tie.Need-returns-3
 returns-3 c =
-    let with-own = c .before in
-    let write-invoke = with-own .before .before .before in
-    let link-number = write-invoke .before in
-    let told2 = link-number .before .before in
-    let check-invoke = told2 .before .before in
-    let told = check-invoke .before in
-    let opening = told .before .before in
+    let with-own = c .before in let class = with-own .before in let write-invoke = class .before .before .before in
+    let link-number = write-invoke .before in let told2 = link-number .before .before in let check-invoke = told2 .before .before in
+    let named = check-invoke .before in let told = named .before in let opening = told .before .before in
     let start = opening .before .before .before .before in
     invoke-accepted (start .args .table .now) (start .args .state) (opening .opening .result) (opening .opening .ensures) (opened told)
     (start .args .out .now) _ _ (with-own .with-own .result) _ (c .accepted .ensures) (start .args .id .0) (start .args .value .now)
     (start .args .code) (readPeerLink (start .args .linked))
     (verdict-passes (check-invoke .check-invoke .result) (laterChecks (start .args .table .now) (start .args .state) (invoke (start .args .id .0) (start .args .code) (readPeerLink (start .args .linked)) (start .args .value .now) (length (start .args .out .now)))) (check-invoke .check-invoke .ensures) (checked told2))
-    (link-number .link-number .result) (link-number .link-number .ensures) (with-own .with-own .ensures) (write-invoke .write-invoke .ensures)
+    (link-number .link-number .result) (link-number .link-number .ensures) (with-own .with-own .ensures (start .args .table .now) (class .class .ensures ∙ ap classOf (named .operation-named .ensures))) (write-invoke .write-invoke .ensures)
 
 pub invoke-spec : {M : Type 1} → statement M
 invoke-spec =
@@ -115,6 +116,7 @@ invoke-spec =
     refused-requires
     returns
     enum-told
+    operation-named-requires
     check-invoke-requires
     enum-known-why-2
     refused-requires-2
@@ -122,6 +124,7 @@ invoke-spec =
     enum-told-2
     link-number-requires
     write-invoke-requires
+    class-requires
     with-own-requires
     accepted-requires
     same-length

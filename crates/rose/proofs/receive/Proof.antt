@@ -4,7 +4,8 @@ use Rattle.protocol.specs.Call.{receive}
 use Rattle.protocol.specs.Check.{shared}
 use Rattle.rose.proofs.Verdicts.{verdict-passes}
 use Rattle.rose.proofs.UsableAnswers.{opened-valid}
-use Rattle.rose.proofs.Calls.{opening-unheard, too-long, no-room, received}
+use Rattle.rose.proofs.Calls.{opening-unheard}
+use Rattle.rose.proofs.Receiving.{too-long, no-room, received}
 use native.Mathlib.Omega.{arith}
 use borrow.Author.Needs.{needs}
 use Rattle.rose.proofs.receive.Statement.{statement}
@@ -21,9 +22,7 @@ unheard-requires c κs = search needs
 
 returns : tie.Need-returns
 returns c =
-    let why = c .before .before in
-    let opening = why .before .before in
-    let start = opening .before .before .before .before in
+    let why = c .before .before in let opening = why .before .before in let start = opening .before .before .before .before in
     opening-unheard (start .args .table .now) (start .args .state) (receive (start .args .apdu .now) (length (start .args .out .now)))
     (opening .opening .result) (opening .opening .ensures) (why .why .given .0 .0) (cc) (start .args .apdu .now) (start .args .out .now) _
     (c .unheard .ensures)
@@ -36,9 +35,7 @@ unheard-requires-2 c κs = search needs
 
 returns-2 : tie.Need-returns-2
 returns-2 c =
-    let if1 = c .before in
-    let opening = if1 .before .before .before in
-    let start = opening .before .before .before .before in
+    let if1 = c .before in let opening = if1 .before .before .before in let start = opening .before .before .before .before in
     too-long (start .args .table .now) (start .args .state) (start .args .apdu .now) (start .args .out .now) (opening .opening .result)
     (opening .opening .ensures) (cc) (if1 .if1 .taken) _ (c .unheard2 .ensures)
 
@@ -47,16 +44,13 @@ unheard-requires-3 c κs = search needs
 
 returns-3 : tie.Need-returns-3
 returns-3 c =
-    let if2 = c .before in
-    let opening = if2 .before .before .before .before in
-    let start = opening .before .before .before .before in
+    let if2 = c .before in let opening = if2 .before .before .before .before in let start = opening .before .before .before .before in
     no-room (start .args .table .now) (start .args .state) (start .args .apdu .now) (start .args .out .now) (opening .opening .result)
     (opening .opening .ensures) (cc) (omega arith) (if2 .if2 .taken) _ (c .unheard3 .ensures)
 
 arrive-requires : tie.Need-arrive-requires
 arrive-requires c κs =
-    let opening = c .before .before .before .before in
-    let start = opening .before .before .before .before in
+    let opening = c .before .before .before .before in let start = opening .before .before .before .before in
     opened-valid (start .args .table .now) (start .args .state)
     (verdict-passes (opening .opening .result) (shared (start .args .table .now) (start .args .state)) (opening .opening .ensures) (cc))
 
@@ -68,10 +62,8 @@ same-length c = search needs
 
 returns-4 : tie.Need-returns-4
 returns-4 c =
-    let write-answer = c .before .before in
-    let arrive = write-answer .before .before .before in
-    let opening = arrive .before .before .before .before .before in
-    let start = opening .before .before .before .before in
+    let write-answer = c .before .before in let arrive = write-answer .before .before .before in
+    let opening = arrive .before .before .before .before .before in let start = opening .before .before .before .before in
     received (start .args .table .now) (start .args .state) (start .args .apdu .now) (start .args .out .now) (opening .opening .result)
     (opening .opening .ensures) (cc) (omega arith) (omega arith) (arrive .arrive .result) (arrive .arrive .ensures) _ _
     (write-answer .write-answer .ensures)

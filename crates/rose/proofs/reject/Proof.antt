@@ -23,9 +23,7 @@ refused-requires c κs = search needs
 
 returns : tie.Need-returns
 returns c =
-    let why = c .before .before in
-    let opening = why .before .before in
-    let start = opening .before .before .before in
+    let why = c .before .before in let opening = why .before .before in let start = opening .before .before .before in
     opening-refused (start .args .table .now) (start .args .state)
     (reject (start .args .id .0) (start .args .problem) (length (start .args .out .now))) (opening .opening .result) (opening .opening .ensures)
     (why .why .given .0 .0) (cc) (start .args .out .now) _ (c .refused .ensures)
@@ -47,11 +45,8 @@ refused-requires-2 c κs = search needs
 
 returns-2 : tie.Need-returns-2
 returns-2 c =
-    let why2 = c .before .before in
-    let check-reject = why2 .before .before in
-    let peer-found = check-reject .before in
-    let opening = peer-found .before .before .before in
-    let start = opening .before .before .before in
+    let why2 = c .before .before in let check-reject = why2 .before .before in let peer-found = check-reject .before in
+    let opening = peer-found .before .before .before in let start = opening .before .before .before in
     later-refused (start .args .table .now) (start .args .state) (reject (start .args .id .0) (start .args .problem) (length (start .args .out .now)))
     (opening .opening .result) (opening .opening .ensures) (cc) (why2 .why2 .given .0 .0)
     (verdict-fails (check-reject .check-reject .result) (laterChecks (start .args .table .now) (start .args .state) (reject (start .args .id .0) (start .args .problem) (length (start .args .out .now)))) (why2 .why2 .given .0 .0) (check-reject .check-reject .ensures (start .args .state) (peer-found .peer-found .ensures)) (cc))
@@ -81,14 +76,9 @@ checked a = cc
 
 returns-3 : tie.Need-returns-3
 returns-3 c =
-    let retire-peer = c .before in
-    let write-reject = retire-peer .before .before .before in
-    let told2 = write-reject .before .before in
-    let check-reject = told2 .before .before in
-    let peer-found = check-reject .before in
-    let told = peer-found .before in
-    let opening = told .before .before in
-    let start = opening .before .before .before in
+    let retire-peer = c .before in let write-reject = retire-peer .before .before .before in let told2 = write-reject .before .before in
+    let check-reject = told2 .before .before in let peer-found = check-reject .before in let told = peer-found .before in
+    let opening = told .before .before in let start = opening .before .before .before in
     reject-accepted (start .args .table .now) (start .args .state) (opening .opening .result) (opening .opening .ensures) (opened told) (start .args .out .now)
     _ _ (retire-peer .retire-peer .result) _ (c .accepted .ensures) (start .args .id .0) (start .args .problem)
     (verdict-passes (check-reject .check-reject .result) (laterChecks (start .args .table .now) (start .args .state) (reject (start .args .id .0) (start .args .problem) (length (start .args .out .now)))) (check-reject .check-reject .ensures (start .args .state) (peer-found .peer-found .ensures)) (checked told2))

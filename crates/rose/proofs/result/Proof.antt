@@ -24,9 +24,7 @@ refused-requires c κs = search needs
 
 returns : tie.Need-returns
 returns c =
-    let why = c .before .before in
-    let opening = why .before .before in
-    let start = opening .before .before .before .before in
+    let why = c .before .before in let opening = why .before .before in let start = opening .before .before .before .before in
     opening-refused (start .args .table .now) (start .args .state)
     (result (start .args .id .0) (start .args .value .now) (length (start .args .out .now))) (opening .opening .result) (opening .opening .ensures)
     (why .why .given .0 .0) (cc) (start .args .out .now) _ (c .refused .ensures)
@@ -39,8 +37,7 @@ peer-found-requires c κs = search needs
 
 check-result-requires : tie.Need-check-result-requires
 check-result-requires c κs =
-    let opening = c .before .before .before in
-    let start = opening .before .before .before .before in
+    let opening = c .before .before .before in let start = opening .before .before .before .before in
     opened-valid (start .args .table .now) (start .args .state)
     (verdict-passes (opening .opening .result) (shared (start .args .table .now) (start .args .state)) (opening .opening .ensures) (cc))
 
@@ -52,11 +49,8 @@ refused-requires-2 c κs = search needs
 
 returns-2 : tie.Need-returns-2
 returns-2 c =
-    let why2 = c .before .before in
-    let check-result = why2 .before .before in
-    let peer-found = check-result .before in
-    let opening = peer-found .before .before .before in
-    let start = opening .before .before .before .before in
+    let why2 = c .before .before in let check-result = why2 .before .before in let peer-found = check-result .before in
+    let opening = peer-found .before .before .before in let start = opening .before .before .before .before in
     later-refused (start .args .table .now) (start .args .state)
     (result (start .args .id .0) (start .args .value .now) (length (start .args .out .now))) (opening .opening .result) (opening .opening .ensures)
     (cc) (why2 .why2 .given .0 .0)
@@ -90,15 +84,9 @@ checked a = cc
 
 returns-3 : tie.Need-returns-3
 returns-3 c =
-    let retire-peer = c .before in
-    let write-result = retire-peer .before .before .before in
-    let code-found = write-result .before in
-    let told2 = code-found .before .before in
-    let check-result = told2 .before .before in
-    let peer-found = check-result .before in
-    let told = peer-found .before in
-    let opening = told .before .before in
-    let start = opening .before .before .before .before in
+    let retire-peer = c .before in let write-result = retire-peer .before .before .before in let code-found = write-result .before in
+    let told2 = code-found .before .before in let check-result = told2 .before .before in let peer-found = check-result .before in
+    let told = peer-found .before in let opening = told .before .before in let start = opening .before .before .before .before in
     result-accepted (start .args .table .now) (start .args .state) (opening .opening .result) (opening .opening .ensures) (opened told) (start .args .out .now)
     _ _ (retire-peer .retire-peer .result) _ (c .accepted .ensures) (start .args .id .0) (start .args .value .now)
     (verdict-passes (check-result .check-result .result) (laterChecks (start .args .table .now) (start .args .state) (result (start .args .id .0) (start .args .value .now) (length (start .args .out .now)))) (check-result .check-result .ensures (start .args .state) (peer-found .peer-found .ensures)) (checked told2))

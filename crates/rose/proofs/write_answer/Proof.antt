@@ -15,8 +15,7 @@ enum-known-why c = search needs
 
 returns : tie.Need-returns
 returns c =
-    let reception = c .before .before in
-    let start = reception .before .before .before in
+    let reception = c .before .before in let start = reception .before .before .before in
     refused-silent (start .args .reception) (start .args .out .now) (reception .reception .given .0 .0) (cc)
     (no-reject (reception .reception .given .0 .0) (c .match2 .keys2))
 
@@ -31,8 +30,7 @@ same-length c = search needs
 
 returns-3 : tie.Need-returns-3
 returns-3 c =
-    let write-reject = c .before .before in
-    let why = write-reject .before .before .before in
+    let write-reject = c .before .before in let why = write-reject .before .before .before in
     let start = why .before .before .before .before .before .before in
     reject-written (start .args .reception) (start .args .out .now) (why .why .given .0 .0) (why .why .given .0 .1 .0) (why .why .given .0 .1 .1 .0)
     (cc) _ _ (write-reject .write-reject .ensures)

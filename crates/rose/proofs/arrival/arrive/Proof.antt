@@ -51,31 +51,25 @@ enum-known-id-5 c = search needs
 
 arrive-reject-requires : tie.Need-arrive-reject-requires
 arrive-reject-requires c κs =
-    let id5 = c .before in
-    let parse = id5 .before .before in
-    let start = parse .before .before .before in
+    let id5 = c .before in let parse = id5 .before .before in let start = parse .before .before .before in
     reject-bounds (start .args .x .now) (parse .parse .result) (id5 .id5 .given .0 .0) (id5 .id5 .given .0 .1 .0) (id5 .id5 .given .0 .1 .1 .0)
     (parse .parse .ensures) (cc)
 
 returns : tie.Need-returns
 returns c =
-    let parse = c .before .before .before in
-    let start = parse .before .before .before in
+    let parse = c .before .before .before in let start = parse .before .before .before in
     arrives-wrong (start .args .table .now) (start .args .state) (start .args .x .now) (parse .parse .result) (parse .parse .ensures) BadlyStructured
     (cc) _ 2 Absent (on-structure (start .args .table .now) (start .args .state) (start .args .x .now)) (c .arrive-wrong .ensures)
 
 returns-2 : tie.Need-returns-2
 returns-2 c =
-    let parse = c .before .before .before in
-    let start = parse .before .before .before in
+    let parse = c .before .before .before in let start = parse .before .before .before in
     arrives-wrong (start .args .table .now) (start .args .state) (start .args .x .now) (parse .parse .result) (parse .parse .ensures) Unrecognized
     (cc) _ 0 Absent (on-kind (start .args .table .now) (start .args .state) (start .args .x .now)) (c .arrive-wrong2 .ensures)
 
 returns-3 : tie.Need-returns-3
 returns-3 c =
-    let id = c .before .before in
-    let parse = id .before .before in
-    let start = parse .before .before .before in
+    let id = c .before .before in let parse = id .before .before in let start = parse .before .before .before in
     arrives-wrong (start .args .table .now) (start .args .state) (start .args .x .now) (parse .parse .result) (parse .parse .ensures)
     (Mistyped (id .id .given .0 .0)) (cc) _ 1 (id .id .given .0 .0)
     (on-fields (start .args .table .now) (start .args .state) (start .args .x .now) (id .id .given .0 .0)) (c .arrive-wrong3 .ensures)
@@ -83,9 +77,7 @@ returns-3 c =
 returns-4 : tie.Need-returns-4
 unfolding readParsed
 returns-4 c =
-    let id2 = c .before .before in
-    let parse = id2 .before .before in
-    let start = parse .before .before .before in
+    let id2 = c .before .before in let parse = id2 .before .before in let start = parse .before .before .before in
     arrives-as (start .args .table .now) (start .args .state) (start .args .x .now) (parse .parse .result) (parse .parse .ensures)
     (Invoke (id2 .id2 .given .0 .0) (id2 .id2 .given .0 .1 .0) (id2 .id2 .given .0 .1 .1 .0) (id2 .id2 .given .0 .1 .1 .1 .0)) (cc) _
     (c .arrive-invoke .ensures)
@@ -93,27 +85,21 @@ returns-4 c =
 returns-5 : tie.Need-returns-5
 unfolding readParsed
 returns-5 c =
-    let id3 = c .before .before in
-    let parse = id3 .before .before in
-    let start = parse .before .before .before in
+    let id3 = c .before .before in let parse = id3 .before .before in let start = parse .before .before .before in
     arrives-as (start .args .table .now) (start .args .state) (start .args .x .now) (parse .parse .result) (parse .parse .ensures)
     (Result (id3 .id3 .given .0 .0) (id3 .id3 .given .0 .1 .0)) (cc) _ (c .arrive-result .ensures)
 
 returns-6 : tie.Need-returns-6
 unfolding readParsed
 returns-6 c =
-    let id4 = c .before .before in
-    let parse = id4 .before .before in
-    let start = parse .before .before .before in
+    let id4 = c .before .before in let parse = id4 .before .before in let start = parse .before .before .before in
     arrives-as (start .args .table .now) (start .args .state) (start .args .x .now) (parse .parse .result) (parse .parse .ensures)
     (Error (id4 .id4 .given .0 .0) (id4 .id4 .given .0 .1 .0) (id4 .id4 .given .0 .1 .1 .0)) (cc) _ (c .arrive-error .ensures)
 
 returns-7 : tie.Need-returns-7
 unfolding readParsed
 returns-7 c =
-    let id5 = c .before .before in
-    let parse = id5 .before .before in
-    let start = parse .before .before .before in
+    let id5 = c .before .before in let parse = id5 .before .before in let start = parse .before .before .before in
     arrives-as (start .args .table .now) (start .args .state) (start .args .x .now) (parse .parse .result) (parse .parse .ensures)
     (Reject (id5 .id5 .given .0 .0) (id5 .id5 .given .0 .1 .0) (id5 .id5 .given .0 .1 .1 .0)) (cc) _ (c .arrive-reject .ensures)
 

@@ -35,21 +35,15 @@ indicated-requires c κs = search needs
 
 returns : tie.Need-returns
 returns c =
-    let why = c .before .before in
-    let check-error = why .before .before in
-    let own-found = check-error .before in
+    let why = c .before .before in let check-error = why .before .before in let own-found = check-error .before in
     let start = own-found .before .before .before in
     error-refused (start .args .table .now) (start .args .state) (start .args .x .now) (start .args .id) (start .args .field) (start .args .value)
     (check-error .check-error .result) (check-error .check-error .ensures (start .args .state) (own-found .own-found .ensures)) _ (why .why .given .0 .0) (cc) (c .refused .ensures)
 
 returns-2 : tie.Need-returns-2
 returns-2 c =
-    let field-code = c .before in
-    let retire-own = field-code .before in
-    let code-found = retire-own .before in
-    let check-error = code-found .before .before .before in
-    let own-found = check-error .before in
-    let start = own-found .before .before .before in
+    let field-code = c .before in let retire-own = field-code .before in let code-found = retire-own .before in
+    let check-error = code-found .before .before .before in let own-found = check-error .before in let start = own-found .before .before .before in
     error-indicated (start .args .table .now) (start .args .state) (start .args .x .now) (start .args .id) (start .args .field) (start .args .value)
     (check-error .check-error .result) (check-error .check-error .ensures (start .args .state) (own-found .own-found .ensures)) _ (cc) (code-found .code-found .result) (code-found .code-found .ensures ∙ ap codeFound (own-found .own-found .ensures))
     (field-code .field-code .result) (field-code .field-code .ensures) (retire-own .retire-own .result) (retire-own .retire-own .ensures)

@@ -24,10 +24,7 @@ indicated-requires-2 c κs = search needs
 
 returns : tie.Need-returns
 returns c =
-    let retire-own = c .before in
-    let if1 = retire-own .before in
-    let rejection = if1 .before in
-    let id = rejection .before .before in
+    let retire-own = c .before in let if1 = retire-own .before in let rejection = if1 .before in let id = rejection .before .before in
     let start = id .before .before .before .before in
     reject-retires (start .args .table .now) (start .args .state) (start .args .x .now) (start .args .kind) (start .args .number) (start .args .id)
     (id .id .given .0 .0) (cc) (rejection .rejection .result) (rejection .rejection .ensures (start .args .x .now)) _ (if1 .if1 .taken)
@@ -44,10 +41,7 @@ returns-2 c =
 
 returns-3 : tie.Need-returns-3
 returns-3 c =
-    let if1 = c .before in
-    let rejection = if1 .before in
-    let id = rejection .before .before in
-    let start = id .before .before .before .before in
+    let if1 = c .before in let rejection = if1 .before in let id = rejection .before .before in let start = id .before .before .before .before in
     reject-leaves (start .args .table .now) (start .args .state) (start .args .x .now) (start .args .kind) (start .args .number) (start .args .id)
     (id .id .given .0 .0) (cc) (rejection .rejection .result) (rejection .rejection .ensures (start .args .x .now)) _ (if1 .if1 .left)
     (c .indicated3 .ensures)

@@ -32,20 +32,15 @@ indicated-requires c κs = search needs
 
 returns : tie.Need-returns
 returns c =
-    let why = c .before .before in
-    let check-result = why .before .before in
-    let own-found = check-result .before in
+    let why = c .before .before in let check-result = why .before .before in let own-found = check-result .before in
     let start = own-found .before .before .before in
     result-refused (start .args .table .now) (start .args .state) (start .args .x .now) (start .args .id) (start .args .body)
     (check-result .check-result .result) (check-result .check-result .ensures (start .args .state) (own-found .own-found .ensures)) _ (why .why .given .0 .0) (cc) (c .refused .ensures)
 
 returns-2 : tie.Need-returns-2
 returns-2 c =
-    let retire-own = c .before in
-    let code-found = retire-own .before in
-    let check-result = code-found .before .before .before in
-    let own-found = check-result .before in
-    let start = own-found .before .before .before in
+    let retire-own = c .before in let code-found = retire-own .before in let check-result = code-found .before .before .before in
+    let own-found = check-result .before in let start = own-found .before .before .before in
     result-indicated (start .args .table .now) (start .args .state) (start .args .x .now) (start .args .id) (start .args .body)
     (check-result .check-result .result) (check-result .check-result .ensures (start .args .state) (own-found .own-found .ensures)) _ (cc) (code-found .code-found .result) (code-found .code-found .ensures ∙ ap codeFound (own-found .own-found .ensures))
     (retire-own .retire-own .result) (retire-own .retire-own .ensures) (c .indicated .ensures)

@@ -14,9 +14,7 @@ refused-requires c κs = search needs
 
 returns : tie.Need-returns
 returns c =
-    let if1 = c .before in
-    let starts-reject = if1 .before in
-    let start = starts-reject .before .before in
+    let if1 = c .before in let starts-reject = if1 .before in let start = starts-reject .before .before in
     is-wrong (start .args .x .now) (start .args .state) _ _ _ (c .refused .ensures)
     (fault-reject (start .args .x .now) (start .args .number) (start .args .id) (sym (starts-reject .starts-reject .ensures) ∙ if1 .if1 .taken))
 
@@ -25,9 +23,7 @@ refused-requires-2 c κs = search needs
 
 returns-2 : tie.Need-returns-2
 returns-2 c =
-    let if1 = c .before in
-    let starts-reject = if1 .before in
-    let start = starts-reject .before .before in
+    let if1 = c .before in let starts-reject = if1 .before in let start = starts-reject .before .before in
     is-wrong (start .args .x .now) (start .args .state) _ _ _ (c .refused2 .ensures)
     (fault-other (start .args .x .now) (start .args .number) (start .args .id) (sym (starts-reject .starts-reject .ensures) ∙ if1 .if1 .left))
 

@@ -24,15 +24,13 @@ check-forget-peer-requires c κs = search needs
 
 returns : tie.Need-returns
 returns c =
-    let invocation = c .before .before in
-    let start = invocation .before .before .before in
+    let invocation = c .before .before in let start = invocation .before .before .before in
     c .check-forget-own .ensures ∙ when-is (λ (q : Invocation). first (laterChecks (start .args .table .now) (start .args .state) (forgetting q)))
     (start .args .invocation) (Own (invocation .invocation .given .0 .0)) (cc)
 
 returns-2 : tie.Need-returns-2
 returns-2 c =
-    let invocation2 = c .before .before in
-    let start = invocation2 .before .before .before in
+    let invocation2 = c .before .before in let start = invocation2 .before .before .before in
     c .check-forget-peer .ensures ∙ when-is (λ (q : Invocation). first (laterChecks (start .args .table .now) (start .args .state) (forgetting q)))
     (start .args .invocation) (Peer (invocation2 .invocation2 .given .0 .0)) (cc)
 

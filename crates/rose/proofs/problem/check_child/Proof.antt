@@ -1,5 +1,6 @@
 -- 7, or not.
-use mathlib.Core.Path.{sym, _∙_}
+use mathlib.Core.Path.{sym, ap, _∙_}
+use Rattle.protocol.specs.Check.{codeFound}
 use Rattle.rose.proofs.LinkedAnswers.{child-absent, child-unlisted, child-right}
 use borrow.Author.Needs.{needs}
 use Rattle.rose.proofs.problem.check_child.Statement.{statement}
@@ -11,20 +12,21 @@ enum-told c = search needs
 enum-known-linked : tie.Need-enum-known-linked
 enum-known-linked c = search needs
 
-own-code-requires : tie.Need-own-code-requires
-own-code-requires c κs = search needs
+own-found-requires : tie.Need-own-found-requires
+own-found-requires c κs = search needs
+
+code-found-requires : tie.Need-code-found-requires
+code-found-requires c κs = search needs
 
 is-child-requires : tie.Need-is-child-requires
 is-child-requires c κs = search needs
 
 returns : tie.Need-returns
 returns c =
-    let is-child = c .before in
-    let own-code = is-child .before in
-    let linked = own-code .before .before in
+    let is-child = c .before in let code = is-child .before in let found = code .before in let linked = found .before .before in
     let start = linked .before .before .before in
     child-right (start .args .table .now) (start .args .state) (start .args .id) (start .args .linked) (linked .linked .given .0 .0) (cc)
-    (own-code .own-code .result) (own-code .own-code .ensures) (start .args .code)
+    (code .code-found .result) (code .code-found .ensures ∙ ap codeFound (found .own-found .ensures)) (start .args .code)
     (sym (is-child .is-child .ensures .in-valid (start .pre)) ∙ c .if1 .taken)
 
 problem-requires : tie.Need-problem-requires
@@ -37,14 +39,11 @@ returns-2 c =
 
 returns-3 : tie.Need-returns-3
 returns-3 c =
-    let if1 = c .before in
-    let is-child = if1 .before in
-    let own-code = is-child .before in
-    let linked = own-code .before .before in
-    let start = linked .before .before .before in
+    let if1 = c .before in let is-child = if1 .before in let code = is-child .before in let found = code .before in
+    let linked = found .before .before in let start = linked .before .before .before in
     child-unlisted (start .args .table .now) (start .args .state) (start .args .id) (start .args .linked) (linked .linked .given .0 .0) (cc)
-    (own-code .own-code .result) (own-code .own-code .ensures) _ (start .args .code)
+    (code .code-found .result) (code .code-found .ensures ∙ ap codeFound (found .own-found .ensures)) _ (start .args .code)
     (sym (is-child .is-child .ensures .in-valid (start .pre)) ∙ if1 .if1 .left) (c .problem .ensures)
 
 pub check-child-spec : {M : Type 1} → statement M
-check-child-spec = tie.close (tie.spec enum-told enum-known-linked own-code-requires is-child-requires returns problem-requires returns-2 returns-3)
+check-child-spec = tie.close (tie.spec enum-told enum-known-linked own-found-requires code-found-requires is-child-requires returns problem-requires returns-2 returns-3)

@@ -3,7 +3,7 @@ use mathlib.Core.Path.{sym, ap, _∙_}
 use Rattle.apdu.specs.Reading.{readValue}
 use Rattle.protocol.specs.Check.{isClass, codeFound, ownRecords}
 use Rattle.rose.proofs.UsableAnswers.{found-is-member}
-use Rattle.rose.proofs.ArrivalAnswers.{error-unasked, error-unexpected, other-error, unknown-error, unpaired-error, wrong-parameter, right-parameter}
+use Rattle.rose.proofs.ReturnAnswers.{error-unasked, error-unexpected, other-error, unknown-error, unpaired-error, wrong-parameter, right-parameter}
 use Rattle.base.proofs.Tests.{said-no, said-yes}
 use borrow.Author.Needs.{needs}
 use Rattle.rose.proofs.problem.check_error.Statement.{statement}
@@ -17,9 +17,7 @@ problem-requires c κs = search needs
 
 returns : tie.Need-returns
 returns c = λ s e.
-    let if1 = c .before in
-    let is-found = if1 .before in
-    let start = is-found .before .before .before in
+    let if1 = c .before in let is-found = if1 .before in let start = is-found .before .before .before in
     error-unasked (start .args .table .now) s (start .args .id) (start .args .field)
     (readValue (start .args .x .now) (start .args .value)) _ (said-no (found-is-member (start .args .id) (ownRecords s) e (is-found .is-found .ensures)) (if1 .if1 .taken)) (c .problem .ensures)
 
@@ -40,13 +38,8 @@ problem-requires-2 c κs = search needs
 
 returns-2 : tie.Need-returns-2
 returns-2 c = λ s e.
-    let if2 = c .before in
-    let is-class = if2 .before in
-    let class = is-class .before in
-    let operation-named = class .before in
-    let code-found = operation-named .before in
-    let if1 = code-found .before in
-    let is-found = if1 .before in
+    let if2 = c .before in let is-class = if2 .before in let class = is-class .before in let operation-named = class .before in
+    let code-found = operation-named .before in let if1 = code-found .before in let is-found = if1 .before in
     let start = is-found .before .before .before in
     error-unexpected (start .args .table .now) s (start .args .id) (start .args .field)
     (readValue (start .args .x .now) (start .args .value)) (said-yes (found-is-member (start .args .id) (ownRecords s) e (is-found .is-found .ensures)) (if1 .if1 .left)) (code-found .code-found .result)
@@ -67,17 +60,9 @@ problem-requires-3 c κs = search needs
 
 returns-3 : tie.Need-returns-3
 returns-3 c = λ s e.
-    let if3 = c .before in
-    let is-local = if3 .before in
-    let error-named = is-local .before in
-    let field-code = error-named .before in
-    let if2 = field-code .before in
-    let is-class = if2 .before in
-    let class = is-class .before in
-    let operation-named = class .before in
-    let code-found = operation-named .before in
-    let if1 = code-found .before in
-    let is-found = if1 .before in
+    let if3 = c .before in let is-local = if3 .before in let error-named = is-local .before in let field-code = error-named .before in
+    let if2 = field-code .before in let is-class = if2 .before in let class = is-class .before in let operation-named = class .before in
+    let code-found = operation-named .before in let if1 = code-found .before in let is-found = if1 .before in
     let start = is-found .before .before .before in
     other-error (start .args .table .now) s (start .args .id) (start .args .field)
     (readValue (start .args .x .now) (start .args .value)) (said-yes (found-is-member (start .args .id) (ownRecords s) e (is-found .is-found .ensures)) (if1 .if1 .left)) (code-found .code-found .result)
@@ -94,20 +79,10 @@ problem-requires-4 c κs = search needs
 
 returns-4 : tie.Need-returns-4
 returns-4 c = λ s e.
-    let if4 = c .before in
-    let is-known = if4 .before in
-    let if3 = is-known .before in
-    let is-local = if3 .before in
-    let error-named = is-local .before in
-    let field-code = error-named .before in
-    let if2 = field-code .before in
-    let is-class = if2 .before in
-    let class = is-class .before in
-    let operation-named = class .before in
-    let code-found = operation-named .before in
-    let if1 = code-found .before in
-    let is-found = if1 .before in
-    let start = is-found .before .before .before in
+    let if4 = c .before in let is-known = if4 .before in let if3 = is-known .before in let is-local = if3 .before in
+    let error-named = is-local .before in let field-code = error-named .before in let if2 = field-code .before in let is-class = if2 .before in
+    let class = is-class .before in let operation-named = class .before in let code-found = operation-named .before in let if1 = code-found .before in
+    let is-found = if1 .before in let start = is-found .before .before .before in
     unknown-error (start .args .table .now) s (start .args .id) (start .args .field)
     (readValue (start .args .x .now) (start .args .value)) (said-yes (found-is-member (start .args .id) (ownRecords s) e (is-found .is-found .ensures)) (if1 .if1 .left)) (code-found .code-found .result)
     (code-found .code-found .ensures ∙ ap codeFound e) (operation-named .operation-named .result) (operation-named .operation-named .ensures)
@@ -123,22 +98,10 @@ problem-requires-5 c κs = search needs
 
 returns-5 : tie.Need-returns-5
 returns-5 c = λ s e.
-    let if5 = c .before in
-    let is-paired = if5 .before in
-    let if4 = is-paired .before in
-    let is-known = if4 .before in
-    let if3 = is-known .before in
-    let is-local = if3 .before in
-    let error-named = is-local .before in
-    let field-code = error-named .before in
-    let if2 = field-code .before in
-    let is-class = if2 .before in
-    let class = is-class .before in
-    let operation-named = class .before in
-    let code-found = operation-named .before in
-    let if1 = code-found .before in
-    let is-found = if1 .before in
-    let start = is-found .before .before .before in
+    let if5 = c .before in let is-paired = if5 .before in let if4 = is-paired .before in let is-known = if4 .before in let if3 = is-known .before in
+    let is-local = if3 .before in let error-named = is-local .before in let field-code = error-named .before in let if2 = field-code .before in
+    let is-class = if2 .before in let class = is-class .before in let operation-named = class .before in let code-found = operation-named .before in
+    let if1 = code-found .before in let is-found = if1 .before in let start = is-found .before .before .before in
     unpaired-error (start .args .table .now) s (start .args .id) (start .args .field)
     (readValue (start .args .x .now) (start .args .value)) (said-yes (found-is-member (start .args .id) (ownRecords s) e (is-found .is-found .ensures)) (if1 .if1 .left)) (code-found .code-found .result)
     (code-found .code-found .ensures ∙ ap codeFound e) (operation-named .operation-named .result) (operation-named .operation-named .ensures)
@@ -158,25 +121,11 @@ problem-requires-6 c κs = search needs
 
 returns-6 : tie.Need-returns-6
 returns-6 c = λ s e.
-    let if6 = c .before in
-    let is-right = if6 .before in
-    let parameter = is-right .before in
-    let if5 = parameter .before in
-    let is-paired = if5 .before in
-    let if4 = is-paired .before in
-    let is-known = if4 .before in
-    let if3 = is-known .before in
-    let is-local = if3 .before in
-    let error-named = is-local .before in
-    let field-code = error-named .before in
-    let if2 = field-code .before in
-    let is-class = if2 .before in
-    let class = is-class .before in
-    let operation-named = class .before in
-    let code-found = operation-named .before in
-    let if1 = code-found .before in
-    let is-found = if1 .before in
-    let start = is-found .before .before .before in
+    let if6 = c .before in let is-right = if6 .before in let parameter = is-right .before in let if5 = parameter .before in
+    let is-paired = if5 .before in let if4 = is-paired .before in let is-known = if4 .before in let if3 = is-known .before in
+    let is-local = if3 .before in let error-named = is-local .before in let field-code = error-named .before in let if2 = field-code .before in
+    let is-class = if2 .before in let class = is-class .before in let operation-named = class .before in let code-found = operation-named .before in
+    let if1 = code-found .before in let is-found = if1 .before in let start = is-found .before .before .before in
     wrong-parameter (start .args .table .now) s (start .args .id) (start .args .field)
     (readValue (start .args .x .now) (start .args .value)) (said-yes (found-is-member (start .args .id) (ownRecords s) e (is-found .is-found .ensures)) (if1 .if1 .left)) (code-found .code-found .result)
     (code-found .code-found .ensures ∙ ap codeFound e) (operation-named .operation-named .result) (operation-named .operation-named .ensures)
@@ -188,24 +137,11 @@ returns-6 c = λ s e.
 
 returns-7 : tie.Need-returns-7
 returns-7 c = λ s e.
-    let is-right = c .before in
-    let parameter = is-right .before in
-    let if5 = parameter .before in
-    let is-paired = if5 .before in
-    let if4 = is-paired .before in
-    let is-known = if4 .before in
-    let if3 = is-known .before in
-    let is-local = if3 .before in
-    let error-named = is-local .before in
-    let field-code = error-named .before in
-    let if2 = field-code .before in
-    let is-class = if2 .before in
-    let class = is-class .before in
-    let operation-named = class .before in
-    let code-found = operation-named .before in
-    let if1 = code-found .before in
-    let is-found = if1 .before in
-    let start = is-found .before .before .before in
+    let is-right = c .before in let parameter = is-right .before in let if5 = parameter .before in let is-paired = if5 .before in
+    let if4 = is-paired .before in let is-known = if4 .before in let if3 = is-known .before in let is-local = if3 .before in
+    let error-named = is-local .before in let field-code = error-named .before in let if2 = field-code .before in let is-class = if2 .before in
+    let class = is-class .before in let operation-named = class .before in let code-found = operation-named .before in let if1 = code-found .before in
+    let is-found = if1 .before in let start = is-found .before .before .before in
     right-parameter (start .args .table .now) s (start .args .id) (start .args .field)
     (readValue (start .args .x .now) (start .args .value)) (said-yes (found-is-member (start .args .id) (ownRecords s) e (is-found .is-found .ensures)) (if1 .if1 .left)) (code-found .code-found .result)
     (code-found .code-found .ensures ∙ ap codeFound e) (operation-named .operation-named .result) (operation-named .operation-named .ensures)

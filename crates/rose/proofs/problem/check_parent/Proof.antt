@@ -1,5 +1,8 @@
 -- 5, 6, or neither.
 use Rattle.rose.proofs.LinkedAnswers.{parent-absent, parent-unknown, parent-childless, parent-right}
+use mathlib.Core.Path.{ap, _∙_}
+use Rattle.protocol.specs.Check.{codeFound, ownRecords}
+use Rattle.rose.proofs.UsableAnswers.{found-is-member}
 use Rattle.base.proofs.Tests.{said-no, said-yes}
 use borrow.Author.Needs.{needs}
 use Rattle.rose.proofs.problem.check_parent.Statement.{statement}
@@ -11,23 +14,24 @@ enum-told c = search needs
 enum-known-linked : tie.Need-enum-known-linked
 enum-known-linked c = search needs
 
-has-own-requires : tie.Need-has-own-requires
-has-own-requires c κs = search needs
+own-found-requires : tie.Need-own-found-requires
+own-found-requires c κs = search needs
+
+is-found-requires : tie.Need-is-found-requires
+is-found-requires c κs = search needs
 
 problem-requires : tie.Need-problem-requires
 problem-requires c κs = search needs
 
 returns : tie.Need-returns
 returns c =
-    let if1 = c .before in
-    let has-own = if1 .before in
-    let linked = has-own .before .before in
+    let if1 = c .before in let is-found = if1 .before in let found = is-found .before in let linked = found .before .before in
     let start = linked .before .before .before in
     parent-unknown (start .args .table .now) (start .args .state) (start .args .id) (start .args .linked) (linked .linked .given .0 .0) (cc) _
-    (said-no (has-own .has-own .ensures) (if1 .if1 .taken)) (c .problem .ensures)
+    (said-no (found-is-member (linked .linked .given .0 .0) (ownRecords (start .args .state)) (found .own-found .ensures) (is-found .is-found .ensures)) (if1 .if1 .taken)) (c .problem .ensures)
 
-own-code-requires : tie.Need-own-code-requires
-own-code-requires c κs = search needs
+code-found-requires : tie.Need-code-found-requires
+code-found-requires c κs = search needs
 
 has-child-requires : tie.Need-has-child-requires
 has-child-requires c κs = search needs
@@ -37,15 +41,10 @@ problem-requires-2 c κs = search needs
 
 returns-2 : tie.Need-returns-2
 returns-2 c =
-    let if2 = c .before in
-    let has-child = if2 .before in
-    let own-code = has-child .before in
-    let if1 = own-code .before in
-    let has-own = if1 .before in
-    let linked = has-own .before .before in
-    let start = linked .before .before .before in
+    let if2 = c .before in let has-child = if2 .before in let code = has-child .before in let if1 = code .before in let is-found = if1 .before in
+    let found = is-found .before in let linked = found .before .before in let start = linked .before .before .before in
     parent-childless (start .args .table .now) (start .args .state) (start .args .id) (start .args .linked) (linked .linked .given .0 .0) (cc)
-    (own-code .own-code .result) (own-code .own-code .ensures) _ (said-yes (has-own .has-own .ensures) (if1 .if1 .left))
+    (code .code-found .result) (code .code-found .ensures ∙ ap codeFound (found .own-found .ensures)) _ (said-yes (found-is-member (linked .linked .given .0 .0) (ownRecords (start .args .state)) (found .own-found .ensures) (is-found .is-found .ensures)) (if1 .if1 .left))
     (said-no (has-child .has-child .ensures .in-valid (start .pre)) (if2 .if2 .taken)) (c .problem2 .ensures)
 
 returns-3 : tie.Need-returns-3
@@ -55,14 +54,10 @@ returns-3 c =
 
 returns-4 : tie.Need-returns-4
 returns-4 c =
-    let has-child = c .before in
-    let own-code = has-child .before in
-    let if1 = own-code .before in
-    let has-own = if1 .before in
-    let linked = has-own .before .before in
-    let start = linked .before .before .before in
+    let has-child = c .before in let code = has-child .before in let if1 = code .before in let is-found = if1 .before in
+    let found = is-found .before in let linked = found .before .before in let start = linked .before .before .before in
     parent-right (start .args .table .now) (start .args .state) (start .args .id) (start .args .linked) (linked .linked .given .0 .0) (cc)
-    (own-code .own-code .result) (own-code .own-code .ensures) (said-yes (has-own .has-own .ensures) (if1 .if1 .left))
+    (code .code-found .result) (code .code-found .ensures ∙ ap codeFound (found .own-found .ensures)) (said-yes (found-is-member (linked .linked .given .0 .0) (ownRecords (start .args .state)) (found .own-found .ensures) (is-found .is-found .ensures)) (if1 .if1 .left))
     (said-yes (has-child .has-child .ensures .in-valid (start .pre)) (c .if2 .left))
 
 pub check-parent-spec : {M : Type 1} → statement M
@@ -71,10 +66,11 @@ check-parent-spec =
     (tie.spec
     enum-told
     enum-known-linked
-    has-own-requires
+    own-found-requires
+    is-found-requires
     problem-requires
     returns
-    own-code-requires
+    code-found-requires
     has-child-requires
     problem-requires-2
     returns-2

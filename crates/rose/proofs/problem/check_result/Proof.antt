@@ -5,7 +5,7 @@ use Rattle.apdu.specs.Reading.{readBody}
 use Rattle.protocol.specs.Check.{isClass, codeFound, ownRecords}
 use Rattle.rose.proofs.UsableAnswers.{found-is-member}
 use Rattle.rose.proofs.Verdicts.{moved}
-use Rattle.rose.proofs.ArrivalAnswers.{result-unasked, result-unexpected, result-other, result-wrong, result-right}
+use Rattle.rose.proofs.ReturnAnswers.{result-unasked, result-unexpected, result-other, result-wrong, result-right}
 use Rattle.base.proofs.Tests.{said-no, said-yes}
 use borrow.Author.Needs.{needs}
 use Rattle.rose.proofs.problem.check_result.Statement.{statement}
@@ -19,9 +19,7 @@ problem-requires c κs = search needs
 
 returns : tie.Need-returns
 returns c = λ s e.
-    let if1 = c .before in
-    let is-found = if1 .before in
-    let start = is-found .before .before .before in
+    let if1 = c .before in let is-found = if1 .before in let start = is-found .before .before .before in
     result-unasked (start .args .table .now) s (start .args .id) (readBody (start .args .x .now) (start .args .body)) _
     (said-no (found-is-member (start .args .id) (ownRecords s) e (is-found .is-found .ensures)) (if1 .if1 .taken)) (c .problem .ensures)
 
@@ -42,13 +40,8 @@ problem-requires-2 c κs = search needs
 
 returns-2 : tie.Need-returns-2
 returns-2 c = λ s e.
-    let if2 = c .before in
-    let is-class = if2 .before in
-    let class = is-class .before in
-    let operation-named = class .before in
-    let code-found = operation-named .before in
-    let if1 = code-found .before in
-    let is-found = if1 .before in
+    let if2 = c .before in let is-class = if2 .before in let class = is-class .before in let operation-named = class .before in
+    let code-found = operation-named .before in let if1 = code-found .before in let is-found = if1 .before in
     let start = is-found .before .before .before in
     result-unexpected (start .args .table .now) s (start .args .id) (readBody (start .args .x .now) (start .args .body))
     (said-yes (found-is-member (start .args .id) (ownRecords s) e (is-found .is-found .ensures)) (if1 .if1 .left)) (code-found .code-found .result) (code-found .code-found .ensures ∙ ap codeFound e)
@@ -63,15 +56,8 @@ problem-requires-3 c κs = search needs
 
 returns-3 : tie.Need-returns-3
 returns-3 c = λ s e.
-    let if3 = c .before in
-    let is-other = if3 .before in
-    let if2 = is-other .before in
-    let is-class = if2 .before in
-    let class = is-class .before in
-    let operation-named = class .before in
-    let code-found = operation-named .before in
-    let if1 = code-found .before in
-    let is-found = if1 .before in
+    let if3 = c .before in let is-other = if3 .before in let if2 = is-other .before in let is-class = if2 .before in let class = is-class .before in
+    let operation-named = class .before in let code-found = operation-named .before in let if1 = code-found .before in let is-found = if1 .before in
     let start = is-found .before .before .before in
     result-other (start .args .table .now) s (start .args .id) (readBody (start .args .x .now) (start .args .body))
     (said-yes (found-is-member (start .args .id) (ownRecords s) e (is-found .is-found .ensures)) (if1 .if1 .left)) (code-found .code-found .result) (code-found .code-found .ensures ∙ ap codeFound e)
@@ -93,20 +79,10 @@ problem-requires-4 c κs = search needs
 
 returns-4 : tie.Need-returns-4
 returns-4 c = λ s e.
-    let if4 = c .before in
-    let is-right = if4 .before in
-    let body-value = is-right .before in
-    let result = body-value .before in
-    let if3 = result .before in
-    let is-other = if3 .before in
-    let if2 = is-other .before in
-    let is-class = if2 .before in
-    let class = is-class .before in
-    let operation-named = class .before in
-    let code-found = operation-named .before in
-    let if1 = code-found .before in
-    let is-found = if1 .before in
-    let start = is-found .before .before .before in
+    let if4 = c .before in let is-right = if4 .before in let body-value = is-right .before in let result = body-value .before in
+    let if3 = result .before in let is-other = if3 .before in let if2 = is-other .before in let is-class = if2 .before in
+    let class = is-class .before in let operation-named = class .before in let code-found = operation-named .before in let if1 = code-found .before in
+    let is-found = if1 .before in let start = is-found .before .before .before in
     result-wrong (start .args .table .now) s (start .args .id) (readBody (start .args .x .now) (start .args .body))
     (said-yes (found-is-member (start .args .id) (ownRecords s) e (is-found .is-found .ensures)) (if1 .if1 .left)) (code-found .code-found .result) (code-found .code-found .ensures ∙ ap codeFound e)
     (operation-named .operation-named .result) (operation-named .operation-named .ensures)
@@ -117,18 +93,9 @@ returns-4 c = λ s e.
 
 returns-5 : tie.Need-returns-5
 returns-5 c = λ s e.
-    let is-right = c .before in
-    let body-value = is-right .before in
-    let result = body-value .before in
-    let if3 = result .before in
-    let is-other = if3 .before in
-    let if2 = is-other .before in
-    let is-class = if2 .before in
-    let class = is-class .before in
-    let operation-named = class .before in
-    let code-found = operation-named .before in
-    let if1 = code-found .before in
-    let is-found = if1 .before in
+    let is-right = c .before in let body-value = is-right .before in let result = body-value .before in let if3 = result .before in
+    let is-other = if3 .before in let if2 = is-other .before in let is-class = if2 .before in let class = is-class .before in
+    let operation-named = class .before in let code-found = operation-named .before in let if1 = code-found .before in let is-found = if1 .before in
     let start = is-found .before .before .before in
     result-right (start .args .table .now) s (start .args .id) (readBody (start .args .x .now) (start .args .body))
     (said-yes (found-is-member (start .args .id) (ownRecords s) e (is-found .is-found .ensures)) (if1 .if1 .left)) (code-found .code-found .result) (code-found .code-found .ensures ∙ ap codeFound e)

@@ -26,10 +26,7 @@ same-requires c κs = search needs
 
 returns : tie.Need-returns
 returns c =
-    let field-code = c .before in
-    let if1 = field-code .before in
-    let is-local = if1 .before in
-    let body = is-local .before .before in
+    let field-code = c .before in let if1 = field-code .before in let is-local = if1 .before in let body = is-local .before .before in
     let start = body .before .before in
     λ x. ap not (c .same .ensures ∙ ap (λ (k : Code). sameCode k (start .args .code)) (field-code .field-code .ensures)) ∙ other-local x
     (start .args .body) (body .body .given .0 .0) (body .body .given .0 .1 .0) (start .args .code) (cc)
@@ -41,9 +38,7 @@ returns-2 c = λ x. cc
 
 returns-3 : tie.Need-returns-3
 returns-3 c =
-    let is-local = c .before in
-    let body = is-local .before .before in
-    let start = body .before .before in
+    let is-local = c .before in let body = is-local .before .before in let start = body .before .before in
     λ x. other-form x (start .args .body) (body .body .given .0 .0) (body .body .given .0 .1 .0) (start .args .code) (cc)
     ((sym (is-local .is-local .ensures) ∙ c .if1 .left))
 

@@ -27,9 +27,7 @@ octets-of-requires c κs = search needs
 
 returns : tie.Need-returns
 returns c =
-    let octets-of = c .before in
-    let value = octets-of .before .before in
-    let start = value .before .before .before in
+    let octets-of = c .before in let value = octets-of .before .before in let start = value .before .before .before in
     right-empty (start .args .x .now) (start .args .rule) (start .args .value) (value .value .given .0 .0) (cc) _ (octets-of .octets-of .ensures)
     (c .if1 .taken)
 
@@ -43,10 +41,7 @@ returns-2 c =
 
 returns-3 : tie.Need-returns-3
 returns-3 c =
-    let if1 = c .before in
-    let octets-of = if1 .before in
-    let value = octets-of .before .before in
-    let start = value .before .before .before in
+    let if1 = c .before in let octets-of = if1 .before in let value = octets-of .before .before in let start = value .before .before .before in
     right-octets (start .args .x .now) (start .args .rule) (start .args .value) (value .value .given .0 .0) (cc) _ (octets-of .octets-of .ensures)
     (if1 .if1 .left) _ (c .value-right2 .ensures)
 

@@ -19,8 +19,7 @@ is-found-requires c κs = search needs
 
 returns : tie.Need-returns
 returns c = λ s e.
-    let is-found = c .before in
-    let start = is-found .before .before .before in
+    let is-found = c .before in let start = is-found .before .before .before in
     error-unknown (start .args .table .now) s (start .args .id .0) (start .args .code) (start .args .value .now)
     (start .args .room) (said-no (found-is-member (start .args .id .0) (peerRecords s) e (is-found .is-found .ensures)) (c .if1 .taken))
 
@@ -38,13 +37,8 @@ is-class-requires c κs = search needs
 
 returns-2 : tie.Need-returns-2
 returns-2 c = λ s e.
-    let is-class = c .before in
-    let class = is-class .before in
-    let operation-named = class .before in
-    let code-found = operation-named .before in
-    let if1 = code-found .before in
-    let is-found = if1 .before in
-    let start = is-found .before .before .before in
+    let is-class = c .before in let class = is-class .before in let operation-named = class .before in let code-found = operation-named .before in
+    let if1 = code-found .before in let is-found = if1 .before in let start = is-found .before .before .before in
     error-class (start .args .table .now) s (start .args .id .0) (start .args .code) (start .args .value .now) (start .args .room)
     (said-yes (found-is-member (start .args .id .0) (peerRecords s) e (is-found .is-found .ensures)) (if1 .if1 .left)) (operation-named .operation-named .result)
     (operation-named .operation-named .ensures ∙ ap (operationOf (start .args .table .now)) (code-found .code-found .ensures ∙ ap codeFound e))
@@ -58,16 +52,9 @@ is-known-requires c κs = search needs
 
 returns-3 : tie.Need-returns-3
 returns-3 c = λ s e.
-    let is-known = c .before in
-    let error-named = is-known .before in
-    let if2 = error-named .before in
-    let is-class = if2 .before in
-    let class = is-class .before in
-    let operation-named = class .before in
-    let code-found = operation-named .before in
-    let if1 = code-found .before in
-    let is-found = if1 .before in
-    let start = is-found .before .before .before in
+    let is-known = c .before in let error-named = is-known .before in let if2 = error-named .before in let is-class = if2 .before in
+    let class = is-class .before in let operation-named = class .before in let code-found = operation-named .before in let if1 = code-found .before in
+    let is-found = if1 .before in let start = is-found .before .before .before in
     error-not-known (start .args .table .now) s (start .args .id .0) (start .args .code) (start .args .value .now)
     (start .args .room) (said-yes (found-is-member (start .args .id .0) (peerRecords s) e (is-found .is-found .ensures)) (if1 .if1 .left)) (operation-named .operation-named .result)
     (operation-named .operation-named .ensures ∙ ap (operationOf (start .args .table .now)) (code-found .code-found .ensures ∙ ap codeFound e))
@@ -79,22 +66,21 @@ is-paired-requires c κs = search needs
 
 returns-4 : tie.Need-returns-4
 returns-4 c = λ s e.
-    let is-paired = c .before in
-    let error-named = is-paired .before .before .before in
-    let if2 = error-named .before in
-    let is-class = if2 .before in
-    let class = is-class .before in
-    let operation-named = class .before in
-    let code-found = operation-named .before in
-    let if1 = code-found .before in
-    let is-found = if1 .before in
-    let start = is-found .before .before .before in
+    let is-paired = c .before in let error-named = is-paired .before .before .before in let if2 = error-named .before in let is-class = if2 .before in
+    let class = is-class .before in let operation-named = class .before in let code-found = operation-named .before in let if1 = code-found .before in
+    let is-found = if1 .before in let start = is-found .before .before .before in
     error-not-paired (start .args .table .now) s (start .args .id .0) (start .args .code) (start .args .value .now)
     (start .args .room) (said-yes (found-is-member (start .args .id .0) (peerRecords s) e (is-found .is-found .ensures)) (if1 .if1 .left)) (operation-named .operation-named .result)
     (operation-named .operation-named .ensures ∙ ap (operationOf (start .args .table .now)) (code-found .code-found .ensures ∙ ap codeFound e))
     (ap (isClass 4 5) (sym (class .class .ensures)) ∙ (sym (is-class .is-class .ensures) ∙ if2 .if2 .left)) (error-named .error-named .result)
     (error-named .error-named .ensures)
     (moved (λ (k : Code). paired (start .args .table .now) k (start .args .code)) _ _ _ (code-found .code-found .ensures ∙ ap codeFound e) (said-no (is-paired .is-paired .ensures .in-valid (start .pre)) (c .if4 .taken)))
+
+sub-is-well : tie.Need-sub-is-well
+sub-is-well c = search needs
+
+is-well-requires : tie.Need-is-well-requires
+is-well-requires c κs = search needs
 
 parameter-requires : tie.Need-parameter-requires
 parameter-requires c κs = search needs
@@ -107,21 +93,10 @@ fails-requires c κs = search needs
 
 returns-5 : tie.Need-returns-5
 returns-5 c = λ s e.
-    let fails = c .before in
-    let check-value = fails .before in
-    let parameter = check-value .before in
-    let if4 = parameter .before in
-    let is-paired = if4 .before in
-    let if3 = is-paired .before in
-    let is-known = if3 .before in
-    let error-named = is-known .before in
-    let if2 = error-named .before in
-    let is-class = if2 .before in
-    let class = is-class .before in
-    let operation-named = class .before in
-    let code-found = operation-named .before in
-    let if1 = code-found .before in
-    let is-found = if1 .before in
+    let fails = c .before in let check-value = fails .before in let parameter = check-value .before in let is-well = parameter .before in
+    let if4 = is-well .before in let is-paired = if4 .before in let if3 = is-paired .before in let is-known = if3 .before in
+    let error-named = is-known .before in let if2 = error-named .before in let is-class = if2 .before in let class = is-class .before in
+    let operation-named = class .before in let code-found = operation-named .before in let if1 = code-found .before in let is-found = if1 .before in
     let start = is-found .before .before .before in
     error-value (start .args .table .now) s (start .args .id .0) (start .args .code) (start .args .value .now) (start .args .room)
     (said-yes (found-is-member (start .args .id .0) (peerRecords s) e (is-found .is-found .ensures)) (if1 .if1 .left)) (operation-named .operation-named .result)
@@ -129,7 +104,7 @@ returns-5 c = λ s e.
     (ap (isClass 4 5) (sym (class .class .ensures)) ∙ (sym (is-class .is-class .ensures) ∙ if2 .if2 .left)) (error-named .error-named .result)
     (error-named .error-named .ensures) (said-yes (is-known .is-known .ensures) (if3 .if3 .left))
     (moved (λ (k : Code). paired (start .args .table .now) k (start .args .code)) _ _ _ (code-found .code-found .ensures ∙ ap codeFound e) (said-yes (is-paired .is-paired .ensures .in-valid (start .pre)) (if4 .if4 .left)))
-    (parameter .parameter .result) (parameter .parameter .ensures) (check-value .check-value .result) (check-value .check-value .ensures)
+    (parameter .parameter .result) (parameter .parameter .ensures) (check-value .check-value .result) (check-value .check-value .ensures 1 (is-well .is-well .ensures))
     (sym (fails .fails .ensures) ∙ c .if5 .taken)
 
 error-size-requires : tie.Need-error-size-requires
@@ -140,33 +115,20 @@ check-size-requires c κs = search needs
 
 returns-6 : tie.Need-returns-6
 returns-6 c = λ s e.
-    let error-size = c .before in
-    let if5 = error-size .before in
-    let fails = if5 .before in
-    let check-value = fails .before in
-    let parameter = check-value .before in
-    let if4 = parameter .before in
-    let is-paired = if4 .before in
-    let if3 = is-paired .before in
-    let is-known = if3 .before in
-    let error-named = is-known .before in
-    let if2 = error-named .before in
-    let is-class = if2 .before in
-    let class = is-class .before in
-    let operation-named = class .before in
-    let code-found = operation-named .before in
-    let if1 = code-found .before in
-    let is-found = if1 .before in
-    let start = is-found .before .before .before in
+    let error-size = c .before in let if5 = error-size .before in let fails = if5 .before in let check-value = fails .before in
+    let parameter = check-value .before in let is-well = parameter .before in let if4 = is-well .before in let is-paired = if4 .before in
+    let if3 = is-paired .before in let is-known = if3 .before in let error-named = is-known .before in let if2 = error-named .before in
+    let is-class = if2 .before in let class = is-class .before in let operation-named = class .before in let code-found = operation-named .before in
+    let if1 = code-found .before in let is-found = if1 .before in let start = is-found .before .before .before in
     error-sized (start .args .table .now) s (start .args .id .0) (start .args .code) (start .args .value .now) (start .args .room)
     (said-yes (found-is-member (start .args .id .0) (peerRecords s) e (is-found .is-found .ensures)) (if1 .if1 .left)) (operation-named .operation-named .result)
     (operation-named .operation-named .ensures ∙ ap (operationOf (start .args .table .now)) (code-found .code-found .ensures ∙ ap codeFound e))
     (ap (isClass 4 5) (sym (class .class .ensures)) ∙ (sym (is-class .is-class .ensures) ∙ if2 .if2 .left)) (error-named .error-named .result)
     (error-named .error-named .ensures) (said-yes (is-known .is-known .ensures) (if3 .if3 .left))
     (moved (λ (k : Code). paired (start .args .table .now) k (start .args .code)) _ _ _ (code-found .code-found .ensures ∙ ap codeFound e) (said-yes (is-paired .is-paired .ensures .in-valid (start .pre)) (if4 .if4 .left)))
-    (parameter .parameter .result) (parameter .parameter .ensures) (check-value .check-value .result) (check-value .check-value .ensures)
+    (parameter .parameter .result) (parameter .parameter .ensures) (check-value .check-value .result) (check-value .check-value .ensures 1 (is-well .is-well .ensures))
     (sym (fails .fails .ensures) ∙ if5 .if5 .left) _
-    (c .check-size .ensures (encodeError (start .args .id .0) (start .args .code) (given (start .args .value .now))) (error-size .error-size .ensures))
+    (c .check-size .ensures 1 (given (start .args .value .now)) (encodeError (start .args .id .0) (start .args .code) (given (start .args .value .now))) (is-well .is-well .ensures) (error-size .error-size .ensures))
 
 pub check-error-spec : {M : Type 1} → statement M
 check-error-spec =
@@ -184,6 +146,8 @@ check-error-spec =
     returns-3
     is-paired-requires
     returns-4
+    sub-is-well
+    is-well-requires
     parameter-requires
     check-value-requires
     fails-requires

@@ -13,8 +13,7 @@ is-user-problem-requires c κs = search needs
 
 returns : tie.Need-returns
 returns c = λ s e.
-    let is-user-problem = c .before in
-    let start = is-user-problem .before .before in
+    let is-user-problem = c .before in let start = is-user-problem .before .before in
     reject-problem (start .args .table .now) s (start .args .id .0) (start .args .problem) (start .args .room)
     (said-no (is-user-problem .is-user-problem .ensures) (c .if1 .taken))
 
@@ -23,10 +22,7 @@ is-found-requires c κs = search needs
 
 returns-2 : tie.Need-returns-2
 returns-2 c = λ s e.
-    let is-found = c .before in
-    let if1 = is-found .before in
-    let is-user-problem = if1 .before in
-    let start = is-user-problem .before .before in
+    let is-found = c .before in let if1 = is-found .before in let is-user-problem = if1 .before in let start = is-user-problem .before .before in
     reject-unknown (start .args .table .now) s (start .args .id .0) (start .args .problem) (start .args .room)
     (said-yes (is-user-problem .is-user-problem .ensures) (if1 .if1 .left)) (said-no (found-is-member (start .args .id .0) (peerRecords s) e (is-found .is-found .ensures)) (c .if2 .taken))
 
@@ -35,24 +31,16 @@ reject-size-requires c κs = search needs
 
 returns-3 : tie.Need-returns-3
 returns-3 c = λ s e.
-    let reject-size = c .before in
-    let if2 = reject-size .before in
-    let is-found = if2 .before in
-    let if1 = is-found .before in
-    let is-user-problem = if1 .before in
-    let start = is-user-problem .before .before in
+    let reject-size = c .before in let if2 = reject-size .before in let is-found = if2 .before in let if1 = is-found .before in
+    let is-user-problem = if1 .before in let start = is-user-problem .before .before in
     reject-short (start .args .table .now) s (start .args .id .0) (start .args .problem) (start .args .room)
     (said-yes (is-user-problem .is-user-problem .ensures) (if1 .if1 .left)) (said-yes (found-is-member (start .args .id .0) (peerRecords s) e (is-found .is-found .ensures)) (if2 .if2 .left)) _
     (reject-size .reject-size .ensures 0x81 (start .args .problem)) (c .if3 .taken)
 
 returns-4 : tie.Need-returns-4
 returns-4 c = λ s e.
-    let reject-size = c .before in
-    let if2 = reject-size .before in
-    let is-found = if2 .before in
-    let if1 = is-found .before in
-    let is-user-problem = if1 .before in
-    let start = is-user-problem .before .before in
+    let reject-size = c .before in let if2 = reject-size .before in let is-found = if2 .before in let if1 = is-found .before in
+    let is-user-problem = if1 .before in let start = is-user-problem .before .before in
     reject-fits (start .args .table .now) s (start .args .id .0) (start .args .problem) (start .args .room)
     (said-yes (is-user-problem .is-user-problem .ensures) (if1 .if1 .left)) (said-yes (found-is-member (start .args .id .0) (peerRecords s) e (is-found .is-found .ensures)) (if2 .if2 .left)) _
     (reject-size .reject-size .ensures 0x81 (start .args .problem)) (omega arith)

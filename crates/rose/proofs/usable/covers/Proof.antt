@@ -37,9 +37,7 @@ is-listed-requires c κs = search needs
 
 returns : tie.Need-returns Inv-loop μ-loop
 returns c =
-    let is-listed = c .before in
-    let operation-named = is-listed .before in
-    let a = operation-named .before .before .before in
+    let is-listed = c .before in let operation-named = is-listed .before in let a = operation-named .before .before .before in
     sym (a .loop .inv .1 ∙ covered-not _ (a .before .before .before .args .t2) (a .loop .i) (omega arith) _
     (operation-named .operation-named .ensures) (said-no (is-listed .is-listed .ensures) (c .if1 .taken)))
 
@@ -51,8 +49,7 @@ loop-less c = omega arith
 
 loop-again : tie.Need-loop-again Inv-loop μ-loop
 loop-again c =
-    let is-listed = c .before in
-    let operation-named = is-listed .before in
+    let is-listed = c .before in let operation-named = is-listed .before in
     let a = operation-named .before .before .before in (
       omega arith,
       a .loop .inv .1 ∙ covered-next _ (a .before .before .before .args .t2) (a .loop .i) (omega arith) _

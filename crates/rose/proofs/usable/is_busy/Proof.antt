@@ -36,8 +36,7 @@ class-requires c κs = search needs
 
 returns : tie.Need-returns Inv-loop μ-loop
 returns c =
-    let operation-named = c .before .before in
-    let a = operation-named .before .before .before in
+    let operation-named = c .before .before in let a = operation-named .before .before .before in
     sym (a .loop .inv .1 ∙ busy-here _ (a .before .before .before .args .t2) (a .loop .i) (omega arith) _ (operation-named .operation-named .ensures)
     (cc))
 

@@ -5,22 +5,14 @@ use borrow.Author.Needs.{needs}
 use Rattle.rose.proofs.usable.with_peer.Statement.{statement}
 use Rattle.rose.proofs.usable.with_peer.Tie as tie
 
-operation-named-requires : tie.Need-operation-named-requires
-operation-named-requires c κs = search needs
-
-class-requires : tie.Need-class-requires
-class-requires c κs = search needs
-
 returns : tie.Need-returns
-returns c = no-record _ _ _ _ (c .before .before .operation-named .ensures) _ (cc)
+returns c = λ T e. no-record T _ _ _ e _ (c .if1 .taken)
 
 add-peer-requires : tie.Need-add-peer-requires
 add-peer-requires c κs = search needs
 
 returns-2 : tie.Need-returns-2
-returns-2 c = c .add-peer .ensures ∙ one-record _ _ _ _ (c .before .before .before .operation-named .ensures) _ (λ q. c .before .if1 .left (cc))
+returns-2 c = λ T e. c .add-peer .ensures ∙ one-record T _ _ _ e _ (c .before .if1 .left)
 
 pub with-peer-spec : {M : Type 1} → statement M
-with-peer-spec =
-    tie.close
-    (tie.spec operation-named-requires class-requires returns add-peer-requires returns-2)
+with-peer-spec = tie.close (tie.spec returns add-peer-requires returns-2)
