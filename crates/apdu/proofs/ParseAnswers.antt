@@ -1,20 +1,21 @@
 -- What each way through the code that parses answers.
-use Prim.Native.Nat.{ℕ, _<_, _≤_}
+use Prim.Native.Nat.{ℕ, _-_, _<_, _≤_}
 use mathlib.Core.Path.{_≡_, refl, sym, ap, _∙_}
-use mathlib.Core.Bool.{true, false}
+use mathlib.Core.Bool.{true, false, _&&_}
 use mathlib.Core.List.{List, [], _∷_}
 use native.Mathlib.Omega.{arith}
-use lib.ListN.{getD}
-use lib.Dec.{leb}
+use lib.ListN.{length, getD}
+use lib.Dec.{eqb, leb}
 use borrow.Author.Tests.{eq-eqb, ne-eqb, le-leb, lt-leb}
 use Rattle.base.proofs.Tests.{cond-true, cond-false, and-true, and-false-left, and-false-right}
 use Rattle.records.specs.Limits.{levels}
-use Rattle.ber.specs.declared.header.Header.{Header}
+use Rattle.ber.specs.declared.header.Header.the-variants.{At, NoHeader}
 use Rattle.ber.specs.Header.{headerOf}
-use Rattle.ber.specs.Element.{wellFormed}
+use Rattle.ber.specs.Element.{part, wellFormed}
+use Rattle.ber.proofs.ElementAnswers.{makesElement, well-formed-headless, well-formed-at}
 use Rattle.apdu.specs.declared.Number.{Number}
 use Rattle.apdu.specs.declared.Number.the-variants.{Of, Absent}
-use Rattle.apdu.specs.Field.{Field}
+use Rattle.apdu.specs.Field.{Field, fields}
 use Rattle.apdu.specs.Parse.{badlyStructured, unrecognized, mistyped, codedOf, linkedOf, invokeOf, resultOf, errorOf, reject, isProblem, idAllowed, rejectWith, rejectOf, behindId, withId, byKind, parseAt, parse}
 
 -- A2: a field that is not 30, whatever follows
@@ -69,11 +70,26 @@ module _ (t : ℕ) (fs : List Field) where
   unfolding byKind
   kind-reject e = cond-true _ _ (eq-eqb t 0xA4 e) ∙ cond-false _ _ (and-false-right (leb 0xA1 t) (leb t 0xA3) (lt-leb t 0xA3 (omega arith)))
 
--- the whole
-pub parse-not : (x : List ℕ) → wellFormed levels x ≡ false → badlyStructured ≡ parse x
-unfolding parse
-parse-not x e = cond-false _ _ e
+-- ---- the whole, by its header
 
-pub parse-by : (x : List ℕ) (h : Header) → wellFormed levels x ≡ true → h ≡ headerOf x → (g : Header) → h ≡ g → parseAt x g ≡ parse x
-unfolding parse
-parse-by x h e q g w = ap (parseAt x) (sym w ∙ q) ∙ cond-true _ _ e
+module _ (x : List ℕ) where
+  parse-not : wellFormed levels x ≡ false → badlyStructured ≡ parse x
+  unfolding parse
+  parse-not e = cond-false _ _ e
+
+  pub parse-headless : headerOf x ≡ NoHeader → badlyStructured ≡ parse x
+  parse-headless w = parse-not (well-formed-headless levels x (λ z. omega arith) w)
+
+  module _ (id a e : ℕ) (w : headerOf x ≡ At id a e) where
+    whole : wellFormed levels x ≡ (eqb e (length x) && makesElement (levels - 1) id (part x a e))
+    whole = well-formed-at levels x (λ z. omega arith) id a e w
+
+    pub parse-longer : (e ≡ length x → ⊥) → badlyStructured ≡ parse x
+    parse-longer h = parse-not (whole ∙ and-false-left (eqb e (length x)) _ (ne-eqb e (length x) h))
+
+    pub parse-wrong : makesElement (levels - 1) id (part x a e) ≡ false → badlyStructured ≡ parse x
+    parse-wrong m = parse-not (whole ∙ and-false-right (eqb e (length x)) _ m)
+
+    pub parse-right : e ≡ length x → makesElement (levels - 1) id (part x a e) ≡ true → byKind id (fields (part x a e)) ≡ parse x
+    unfolding parse parseAt
+    parse-right h m = ap (parseAt x) (sym w) ∙ cond-true _ _ (whole ∙ and-true (eq-eqb e (length x) h) m)

@@ -13,7 +13,7 @@ use crate::field::id_allowed;
 use crate::field::is_problem;
 use crate::field::linked_id;
 use crate::field::number_under;
-use ber::element::well_formed;
+use ber::element::is_element;
 use ber::header::Header;
 use ber::header::header_of;
 use records::State;
@@ -200,21 +200,22 @@ fn by_kind(s: &[u8], first: u8, at: usize, end: usize) -> Parsed
     Parsed::Unrecognized
 }
 
-// What the lent octets say, with places in them.
+// What the lent octets say, with places in them. Its own header is read once.
 pub fn parse(apdu: &[u8]) -> Parsed
     ensures { λ r. ⌜ readParsed (now (apdu .entry)) r ≡ parse (now (apdu .entry)) ⌝ }
 {
-    if well_formed(apdu, State::LEVELS) {
-        match header_of(apdu) {
-            Header::NoHeader => {
+    match header_of(apdu) {
+        Header::NoHeader => Parsed::BadlyStructured,
+        Header::At { id, start, end } => {
+            if end != apdu.len() {
                 return Parsed::BadlyStructured;
             }
-            Header::At { id, start, end } => {
+            if is_element(id, &apdu[start..end], State::LEVELS - 1) {
                 return by_kind(apdu, id, start, end);
             }
+            Parsed::BadlyStructured
         }
     }
-    Parsed::BadlyStructured
 }
 
 // The octets of a span, as far as there are any.

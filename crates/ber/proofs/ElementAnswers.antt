@@ -1,6 +1,6 @@
 -- What each way through the code of element, is_element, contents and well_formed answers.
 use mathlib.Core.Path.{_≡_, refl, sym, ap, _∙_}
-use mathlib.Core.Bool.{Bool, true, false, cond, _&&_, and-true}
+use mathlib.Core.Bool.{Bool, true, false, cond, _&&_, and-true, and-false}
 use mathlib.Core.List.{List, [], _∷_}
 use Prim.Native.Nat.{ℕ, zero, suc, _+_, _-_, _/_, _%_, _<_, _≤_}
 use native.Mathlib.Omega.{arith}
@@ -115,3 +115,14 @@ module _ (d : ℕ) (s : List ℕ) (r : Checked) (q : r ≡ elementOf d s) where
   pub well-formed-by : (n : ℕ) → r ≡ Good n → eqb n (length s) ≡ wellFormed d s
   unfolding wellFormed fills
   well-formed-by n w = sym (ap (fills (length s)) (good-size d s n (sym q ∙ w)))
+
+-- s is one element: by its header
+pub well-formed-headless : (d : ℕ) (s : List ℕ) → (d ≡ 0 → ⊥) → headerOf s ≡ NoHeader → wellFormed d s ≡ false
+well-formed-headless d s n w = sym (well-formed-fault d s Fault (element-no-header d s n w) refl)
+
+pub well-formed-at : (d : ℕ) (s : List ℕ) → (d ≡ 0 → ⊥) → (id a e : ℕ) → headerOf s ≡ At id a e → wellFormed d s ≡ (eqb e (length s) && makesElement (d - 1) id (part s a e))
+well-formed-at d s n id a e w = go (makesElement (d - 1) id (part s a e)) refl
+  where
+    go : (b : Bool) → makesElement (d - 1) id (part s a e) ≡ b → wellFormed d s ≡ (eqb e (length s) && b)
+    go true m = sym (and-true (eqb e (length s)) ∙ well-formed-by d s (Good e) (element-good d s n id a e w m) e refl)
+    go false m = sym (and-false (eqb e (length s)) ∙ well-formed-fault d s Fault (element-fault d s n id a e w m) refl)

@@ -4,7 +4,7 @@ mod HeaderAnswers
 mod RuleAnswers
 pub mod HeaderFacts
 pub mod ElementLaws
-mod ElementAnswers
+pub mod ElementAnswers
 pub mod Locality
 mod IntegerAnswers
 pub mod IntegerLaws

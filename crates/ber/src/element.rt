@@ -32,7 +32,7 @@ pub fn element(s: &[u8], levels: usize) -> Checked
 }
 
 // Whether contents make an element under an identifier, with so many levels below it.
-fn is_element(id: u8, c: &[u8], levels: usize) -> bool
+pub fn is_element(id: u8, c: &[u8], levels: usize) -> bool
     ensures { λ r. ⌜ r ≡ (contentRule id (now (c .entry)) && cond (constructed id) (contentsOf levels (now (c .entry))) true) ⌝ }
 {
     if !content_rule(id, c) {

@@ -3,12 +3,11 @@ use Prim.Native.Nat.{ℕ, _+_, _*_, _≤_, _<_}
 use native.Mathlib.Numerals.{add-one}
 use native.Mathlib.Omega.{arith}
 use mathlib.Core.Path.{_≡_, refl, sym, subst, _∙_}
-use mathlib.Core.Bool.{Bool, true, false, not, _&&_}
+use mathlib.Core.Bool.{Bool, true, false, not, _&&_, and-assoc}
 use mathlib.Core.List.{List, [], _∷_, _++_, map, append-nil}
 use borrow.Author.Tests.{eq-eqb, ne-eqb, eqb-true, eqb-false}
 use lib.Dec.{eqb}
 use lib.Bits.{bitOr, or-add-and, and-le-l, and-le-r}
-use Rattle.base.proofs.Tests.{and-assoc}
 use lib.ListN.{length, take, drop, getD, length-map, length-take, drop-of-length-le}
 use lib.Seq.{drop-cons, take-suc, getD-take}
 use Rattle.records.specs.declared.Record.{Record}
@@ -101,5 +100,14 @@ module _ (s : Records) (i : ℕ) (p : i < length (view s)) where
         rw (e, kept-at h) (placed-pack (without n (take i (view s))) (getD (s .places) i unused) few)
 
 -- ---- soundness
+
+few-distinct : (l : List Record) → length l < 2 → distinct l ≡ true
+few-distinct [] h = refl
+few-distinct (r ∷ []) h = refl
+few-distinct (r ∷ q ∷ l) h = absurd (omega arith)
+
+pub few-once : (s : Records) → s .count < 2 → distinct (view s) ≡ true
+few-once s h = few-distinct (view s) (omega (arith, length-take (s .count) (s .places)))
+
 pub side-answer : (s : Records) (r : Bool) → length (s .places) ≡ records → r ≡ soundRecords s → SideAnswer s r
 side-answer s r full e = record { says = e; packed = λ h. sound-is-packed s full (sym e ∙ h) }

@@ -137,6 +137,10 @@ impl Records {
         if State::RECORDS < self.count {
             return false;
         }
+        // Fewer than two records have no pair to search.
+        if self.count < 2 {
+            return self.blank();
+        }
         if self.distinct() {
             return self.blank();
         }
@@ -160,11 +164,8 @@ impl Records {
         ensures { λ r. ⌜ r ≡ retired self id ⌝ }
     {
         let n = self.live();
-        let unused = Record {
-            id: 0,
-            code: Code(0),
-        };
-        let mut places = [unused; State::RECORDS];
+        let fresh = Records::fresh();
+        let mut places = fresh.places;
         let mut kept: usize = 0;
         let mut i: usize = 0;
         while i < n {

@@ -13,7 +13,6 @@ use apdu::CodeField;
 use apdu::Number;
 use apdu::Parsed;
 use apdu::Value;
-use apdu::parse::parse;
 use protocol::Indication;
 use protocol::OwnLink;
 use protocol::Reception;
@@ -32,7 +31,7 @@ ghost use Rattle.protocol.specs.Call.{refused};
 ghost use Rattle.protocol.specs.Reading.{readOwnLink, readIndication, readReception};
 ghost use Rattle.optable.specs.Validity.{valid};
 ghost use Rattle.apdu.specs.Parse.{invoke, result, error, reject, parse};
-ghost use Rattle.apdu.specs.Reading.{readValue, readBody};
+ghost use Rattle.apdu.specs.Reading.{readValue, readBody, readParsed};
 ghost use Rattle.protocol.specs.Receive.{fault, rejection};
 ghost use Rattle.rose.specs.Verdict.{Arrives};
 
@@ -229,12 +228,12 @@ fn arrive_reject(state: State, table: &[u8], x: &[u8], id: Number, kind: u8, num
     }
 }
 
-// A received APDU, behind 19, 1, 3 and 2.
-pub(crate) fn arrive(state: State, table: &[u8], x: &[u8]) -> Arrival
-    requires { ⌜ valid (now table) ≡ true ⌝ }
+// A received APDU that was parsed, behind 19, 1, 3 and 2.
+pub(crate) fn arrive(state: State, table: &[u8], x: &[u8], parsed: Parsed) -> Arrival
+    requires { ⌜ (valid (now table) ≡ true) × (readParsed (now x) parsed ≡ parse (now x)) ⌝ }
     ensures { λ r. ⌜ Arrives (now (table .entry)) state (now (x .entry)) (parse (now (x .entry))) r ⌝ }
 {
-    match parse(x) {
+    match parsed {
         Parsed::BadlyStructured => arrive_wrong(state, x, 2, Number::Absent),
         Parsed::Unrecognized => arrive_wrong(state, x, 0, Number::Absent),
         Parsed::Mistyped(id) => arrive_wrong(state, x, 1, id),

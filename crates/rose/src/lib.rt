@@ -10,6 +10,7 @@ use apdu::encode::write_error;
 use apdu::encode::write_invoke;
 use apdu::encode::write_reject;
 use apdu::encode::write_result;
+use apdu::parse::parse;
 use arrival::arrive;
 use forgetting::check_forget;
 use forgetting::forgotten;
@@ -109,7 +110,7 @@ pub fn receive(state: State, table: &[u8], apdu: &[u8], out: &mut [u8]) -> Recei
     if out.len() < 11 {
         return unheard(state, Refusal::ShortOutput);
     }
-    let arrival = arrive(state, table, apdu);
+    let arrival = arrive(state, table, apdu, parse(apdu));
     let next = arrival.state;
     let reception = arrival.reception;
     let written = write_answer(out, reception);

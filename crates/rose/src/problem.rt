@@ -122,7 +122,7 @@ fn check_child(state: State, table: &[u8], id: u32, linked: Number, code: Code) 
     }
 }
 
-// Given the operation of the field's code.
+// The checks of an Invoke, given the operation of its code, which its indication needs too.
 pub(crate) fn check_invoke(
     state: State,
     table: &[u8],

@@ -64,7 +64,7 @@ fn is_well(value: &[u8], levels: usize) -> bool
     well_formed(value, levels)
 }
 
-// Whether a value is well-formed: it is at the full levels if it is at fewer, as `fits` says, and then there is no second walk.
+// Whether a value is well-formed at the full levels: it is where it is so many levels down, as `fits` says, and is then not walked again.
 fn is_well_formed(value: &[u8], fits: bool) -> bool
     ensures { λ r. ⌜ ((down : ℕ) → fits ≡ valueWell (levels - down) (given (now (value .entry))) → r ≡ valueWell levels (given (now (value .entry)))) ⌝ }
 {
@@ -107,7 +107,7 @@ fn check_value(rule: Rule, value: &[u8], fits: bool) -> Verdict
     Verdict::Passes
 }
 
-// 15 and 2, of an APDU of so many octets with such a value in it.
+// 15 and 2, of an APDU of so many octets that holds such a value.
 fn check_size(fits: bool, size: usize, room: usize) -> Verdict
     ensures { λ r. ⌜ ((down : ℕ) (v : Option (List ℕ)) (x : List ℕ) → fits ≡ valueWell (levels - down) v → size ≡ length x → readVerdict r ≡ first (sizeChecks down v x room)) ⌝ }
 {
@@ -123,7 +123,7 @@ fn check_size(fits: bool, size: usize, room: usize) -> Verdict
     Verdict::Passes
 }
 
-// Given the operation of the code.
+// The checks of an invoke, given the operation of its code, which the call itself needs too.
 pub(crate) fn check_invoke(
     state: State,
     table: &[u8],
@@ -163,7 +163,7 @@ pub(crate) fn check_invoke(
     check_size(fits, size, room)
 }
 
-// Given the peer record of the id: the state itself is not passed on.
+// The checks of a result, given the peer record of its id: the state itself is not passed on.
 pub(crate) fn check_result(
     found: Found,
     table: &[u8],
@@ -190,6 +190,7 @@ pub(crate) fn check_result(
     check_size(fits, result_size(id.0, code, value), room)
 }
 
+// The checks of an error, likewise.
 pub(crate) fn check_error(
     found: Found,
     table: &[u8],

@@ -1,5 +1,7 @@
 -- 19 and 1, 3, 2, or what becomes of the APDU.
 use lib.ListN.{length}
+use mathlib.Core.Path.{_≡_}
+use Rattle.rose.specs.declared.Verdict.the-variants.{Passes}
 use Rattle.protocol.specs.Call.{receive}
 use Rattle.protocol.specs.Check.{shared}
 use Rattle.rose.proofs.Verdicts.{verdict-passes}
@@ -48,11 +50,16 @@ returns-3 c =
     no-room (start .args .table .now) (start .args .state) (start .args .apdu .now) (start .args .out .now) (opening .opening .result)
     (opening .opening .ensures) (cc) (omega arith) (if2 .if2 .taken) _ (c .unheard3 .ensures)
 
+parse-requires : tie.Need-parse-requires
+parse-requires c κs = search needs
+
+opened : (a : tie.After-enum-told) → a .before .before .opening .result ≡ Passes
+opened a = cc
+
 arrive-requires : tie.Need-arrive-requires
 arrive-requires c κs =
-    let opening = c .before .before .before .before in let start = opening .before .before .before .before in
-    opened-valid (start .args .table .now) (start .args .state)
-    (verdict-passes (opening .opening .result) (shared (start .args .table .now) (start .args .state)) (opening .opening .ensures) (cc))
+    let told = c .before .before .before in let opening = told .before .before in let start = opening .before .before .before .before in
+    (opened-valid (start .args .table .now) (start .args .state) (verdict-passes (opening .opening .result) (shared (start .args .table .now) (start .args .state)) (opening .opening .ensures) (opened told)), c .parse .ensures)
 
 write-answer-requires : tie.Need-write-answer-requires
 write-answer-requires c κs = search needs
@@ -63,9 +70,9 @@ same-length c = search needs
 returns-4 : tie.Need-returns-4
 returns-4 c =
     let write-answer = c .before .before in let arrive = write-answer .before .before .before in
-    let opening = arrive .before .before .before .before .before in let start = opening .before .before .before .before in
+    let told = arrive .before .before .before .before in let opening = told .before .before in let start = opening .before .before .before .before in
     received (start .args .table .now) (start .args .state) (start .args .apdu .now) (start .args .out .now) (opening .opening .result)
-    (opening .opening .ensures) (cc) (omega arith) (omega arith) (arrive .arrive .result) (arrive .arrive .ensures) _ _
+    (opening .opening .ensures) (opened told) (omega arith) (omega arith) (arrive .arrive .result) (arrive .arrive .ensures) _ _
     (write-answer .write-answer .ensures)
 
 pub receive-spec : {M : Type 1} → statement M
@@ -81,6 +88,7 @@ receive-spec =
     returns-2
     unheard-requires-3
     returns-3
+    parse-requires
     arrive-requires
     write-answer-requires
     same-length

@@ -3,10 +3,9 @@ use borrow.Author.Needs.{needs}
 use native.Mathlib.Omega.{arith}
 use Prim.Native.Nat.{_-_}
 use mathlib.Core.Path.{_≡_, refl, sym, _∙_}
-use mathlib.Core.Bool.{_&&_}
+use mathlib.Core.Bool.{_&&_, and-true}
 use lib.ListN.{length, drop, drop-of-length-le}
 use lib.Dec.{eqb}
-use Rattle.base.proofs.Tests.{and-true-right}
 use Rattle.records.specs.Limits.{records}
 use Rattle.records.specs.Records.{blank}
 use Rattle.records.proofs.Steps.{unmapped, blank-step}
@@ -55,7 +54,7 @@ loop-again c =
 returns : tie.Need-returns Inv-loop μ-loop
 returns c =
     let a = c .before in
-    sym (a .loop .inv .1 ∙ rw (drop-of-length-le (a .before .args .t1 .places) {i = a .loop .i} (omega arith)) (and-true-right (eqb (a .loop .used) 0)))
+    sym (a .loop .inv .1 ∙ rw (drop-of-length-le (a .before .args .t1 .places) {i = a .loop .i} (omega arith)) (and-true (eqb (a .loop .used) 0)))
 
 pub blank-spec : {M : Type 1} → statement M
 blank-spec =
