@@ -37,23 +37,25 @@ fn invocation(f: Frame) -> Invocation {
     Invocation::Peer(PeerId(f.id))
 }
 
-// The state to make a call from once more: the one that was given, which the compiler must not know in advance.
-fn given_again(written: usize, then: State, given: State) -> State {
+// The table to make a call with once more: the one that was lent, which the compiler must not know in advance.
+fn lent_again(written: usize, table: &[u8]) -> &[u8] {
     if written > State::OCTETS {
-        return then;
+        return &table[0..0];
     }
-    given
+    table
 }
 
 fn received(times: u64, state: State, table: &[u8], x: &[u8], out: &mut [u8]) -> Received {
-    let mut r = rose::receive(state, table, x, out);
     let mut left = times;
-    while left > 1 {
-        let given = given_again(r.written, r.state, state);
-        r = rose::receive(given, table, x, out);
+    let mut lent = table;
+    loop {
+        let r = rose::receive(state, lent, x, out);
+        if left < 2 {
+            return r;
+        }
         left -= 1;
+        lent = lent_again(r.written, table);
     }
-    r
 }
 
 fn receive(
@@ -97,14 +99,16 @@ fn requested(
     value: &[u8],
     out: &mut [u8],
 ) -> Requested {
-    let mut r = request(f, state, table, value, out);
     let mut left = times;
-    while left > 1 {
-        let given = given_again(r.written, r.state, state);
-        r = request(f, given, table, value, out);
+    let mut lent = table;
+    loop {
+        let r = request(f, state, lent, value, out);
+        if left < 2 {
+            return r;
+        }
         left -= 1;
+        lent = lent_again(r.written, table);
     }
-    r
 }
 
 // A call, made so many times, and its line.

@@ -6,31 +6,16 @@ use Rattle.drive.proofs.calls.received.Statement.{statement}
 use Rattle.drive.proofs.calls.received.Tie as tie
 
 abbrev Inv-loop : tie.InvT-loop
-Inv-loop times state table x out₀ r₀ left₀ out r left = length out ≡ length out₀
+Inv-loop times state table x out₀ left₀ lent₀ out left lent = length out ≡ length out₀
 
 abbrev μ-loop : tie.MeasureT-loop
-μ-loop times state table x out₀ r₀ left₀ out r left = left
-
-receive-requires : tie.Need-receive-requires Inv-loop μ-loop
-receive-requires c κs = search needs
+μ-loop times state table x out₀ left₀ lent₀ out left lent = left
 
 loop-holds : tie.Need-loop-holds Inv-loop μ-loop
 loop-holds c = search needs
 
-given-again-requires : tie.Need-given-again-requires Inv-loop μ-loop
-given-again-requires c κs = search needs
-
-receive-requires-2 : tie.Need-receive-requires-2 Inv-loop μ-loop
-receive-requires-2 c κs = search needs
-
-sub-left : tie.Need-sub-left Inv-loop μ-loop
-sub-left c = search needs
-
-loop-less : tie.Need-loop-less Inv-loop μ-loop
-loop-less c = search needs
-
-loop-again : tie.Need-loop-again Inv-loop μ-loop
-loop-again c = search needs
+receive-requires : tie.Need-receive-requires Inv-loop μ-loop
+receive-requires c κs = search needs
 
 same-length : tie.Need-same-length Inv-loop μ-loop
 same-length c = search needs
@@ -38,18 +23,29 @@ same-length c = search needs
 returns : tie.Need-returns Inv-loop μ-loop
 returns c = search needs
 
+sub-left : tie.Need-sub-left Inv-loop μ-loop
+sub-left c = search needs
+
+lent-again-requires : tie.Need-lent-again-requires Inv-loop μ-loop
+lent-again-requires c κs = search needs
+
+loop-less : tie.Need-loop-less Inv-loop μ-loop
+loop-less c = search needs
+
+loop-again : tie.Need-loop-again Inv-loop μ-loop
+loop-again c = search needs
+
 pub received-spec : {M : Type 1} → statement M
 received-spec =
     tie.close
     (tie.spec
     Inv-loop
     μ-loop
-    receive-requires
     loop-holds
-    given-again-requires
-    receive-requires-2
-    sub-left
-    loop-less
-    loop-again
+    receive-requires
     same-length
-    returns)
+    returns
+    sub-left
+    lent-again-requires
+    loop-less
+    loop-again)
