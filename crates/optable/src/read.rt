@@ -46,7 +46,7 @@ fn two(table: &[u8], at: usize) -> u16
     (octet(table, at) as u16) * 256
 }
 
-pub(crate) fn four(table: &[u8], at: usize) -> u32
+fn four(table: &[u8], at: usize) -> u32
     requires { ⌜ at < 1048574 ⌝ }
     ensures { λ r. ⌜ r ≡ u32 (now (table .entry)) at ⌝ }
 {
