@@ -11,8 +11,8 @@ use Rattle.base.proofs.Tests.{cond-true, cond-false, and-true, and-false-left, 
 use Rattle.records.specs.Limits.{levels}
 use Rattle.ber.specs.declared.header.Header.the-variants.{At, NoHeader}
 use Rattle.ber.specs.Header.{headerOf}
-use Rattle.ber.specs.Element.{part, wellFormed}
-use Rattle.ber.proofs.ElementAnswers.{makesElement, well-formed-headless, well-formed-at}
+use Rattle.ber.specs.Element.{part, makesElement, contentsOf, wellFormed}
+use Rattle.ber.proofs.ElementAnswers.{well-formed-headless, well-formed-at}
 use Rattle.apdu.specs.declared.Number.{Number}
 use Rattle.apdu.specs.declared.Number.the-variants.{Of, Absent}
 use Rattle.apdu.specs.Field.{Field, fields}
@@ -81,15 +81,15 @@ module _ (x : List ℕ) where
   parse-headless w = parse-not (well-formed-headless levels x (λ z. omega arith) w)
 
   module _ (id a e : ℕ) (w : headerOf x ≡ At id a e) where
-    whole : wellFormed levels x ≡ (eqb e (length x) && makesElement (levels - 1) id (part x a e))
+    whole : wellFormed levels x ≡ (eqb e (length x) && makesElement (contentsOf (levels - 1)) id (part x a e))
     whole = well-formed-at levels x (λ z. omega arith) id a e w
 
     pub parse-longer : (e ≡ length x → ⊥) → badlyStructured ≡ parse x
     parse-longer h = parse-not (whole ∙ and-false-left (eqb e (length x)) _ (ne-eqb e (length x) h))
 
-    pub parse-wrong : makesElement (levels - 1) id (part x a e) ≡ false → badlyStructured ≡ parse x
+    pub parse-wrong : makesElement (contentsOf (levels - 1)) id (part x a e) ≡ false → badlyStructured ≡ parse x
     parse-wrong m = parse-not (whole ∙ and-false-right (eqb e (length x)) _ m)
 
-    pub parse-right : e ≡ length x → makesElement (levels - 1) id (part x a e) ≡ true → byKind id (fields (part x a e)) ≡ parse x
+    pub parse-right : e ≡ length x → makesElement (contentsOf (levels - 1)) id (part x a e) ≡ true → byKind id (fields (part x a e)) ≡ parse x
     unfolding parse parseAt
     parse-right h m = ap (parseAt x) (sym w) ∙ cond-true _ _ (whole ∙ and-true (eq-eqb e (length x) h) m)

@@ -200,7 +200,7 @@ fn by_kind(s: &[u8], first: u8, at: usize, end: usize) -> Parsed
     Parsed::Unrecognized
 }
 
-// What the lent octets say, with places in them. Its own header is read once.
+// What the lent octets say, with places in them. They are one element where its header fills them and its contents make one.
 pub fn parse(apdu: &[u8]) -> Parsed
     ensures { λ r. ⌜ readParsed (now (apdu .entry)) r ≡ parse (now (apdu .entry)) ⌝ }
 {

@@ -15,7 +15,7 @@ use Rattle.ber.specs.declared.element.Checked.{Checked}
 use Rattle.ber.specs.declared.element.Checked.the-variants.{Good, Fault}
 use Rattle.ber.specs.Header.{headerOf}
 use Rattle.ber.specs.Rule.{contentRule}
-use Rattle.ber.specs.Element.{part, constructed, elementWith, elementOf, contentsOf, fills, wellFormed}
+use Rattle.ber.specs.Element.{part, constructed, makesElement, elementWith, elementOf, contentsOf, fills, wellFormed}
 use Rattle.ber.proofs.HeaderLaws.{header-bounds}
 use Rattle.ber.proofs.ElementLaws.{good-size, fault-size, contents-cons, contents-fault, contents-none}
 
@@ -34,15 +34,12 @@ contents-no-level d (b ∷ s) e =
 
 -- ---- contents c make an element under an identifier, with d levels below it
 
-abbrev pub makesElement : ℕ → ℕ → List ℕ → Bool
-makesElement d id c = contentRule id c && cond (constructed id) (contentsOf d c) true
-
 module _ (d id : ℕ) (c : List ℕ) where
-  pub makes-primitive : (id / 32 % 2 ≡ 1 → ⊥) → contentRule id c ≡ makesElement d id c
+  pub makes-primitive : (id / 32 % 2 ≡ 1 → ⊥) → contentRule id c ≡ makesElement (contentsOf d) id c
   unfolding constructed
   makes-primitive p = rw (ne-eqb (id / 32 % 2) 1 p) (sym (and-true (contentRule id c)))
 
-  pub makes-constructed : contentRule id c ≡ true → id / 32 % 2 ≡ 1 → contentsOf d c ≡ makesElement d id c
+  pub makes-constructed : contentRule id c ≡ true → id / 32 % 2 ≡ 1 → contentsOf d c ≡ makesElement (contentsOf d) id c
   unfolding constructed
   makes-constructed r p = rw (r, eq-eqb (id / 32 % 2) 1 p)
 
@@ -59,14 +56,14 @@ module _ (d : ℕ) (s : List ℕ) (n : d ≡ 0 → ⊥) where
   element-no-header w = ap (elementWith (contentsOf (d - 1)) s) (sym w) ∙ element-level d s n
 
   module _ (id a e : ℕ) (w : headerOf s ≡ At id a e) where
-    element-at : cond (makesElement (d - 1) id (part s a e)) (Good e) Fault ≡ elementOf d s
+    element-at : cond (makesElement (contentsOf (d - 1)) id (part s a e)) (Good e) Fault ≡ elementOf d s
     unfolding elementWith
     element-at = ap (elementWith (contentsOf (d - 1)) s) (sym w) ∙ element-level d s n
 
-    pub element-good : makesElement (d - 1) id (part s a e) ≡ true → Good e ≡ elementOf d s
+    pub element-good : makesElement (contentsOf (d - 1)) id (part s a e) ≡ true → Good e ≡ elementOf d s
     element-good r = cond-true _ _ r ∙ element-at
 
-    pub element-fault : makesElement (d - 1) id (part s a e) ≡ false → Fault ≡ elementOf d s
+    pub element-fault : makesElement (contentsOf (d - 1)) id (part s a e) ≡ false → Fault ≡ elementOf d s
     element-fault r = cond-false _ _ r ∙ element-at
 
 -- ---- contents, from the front: what the loop goes by, with the octets from `at` on left
@@ -97,10 +94,10 @@ module _ (d : ℕ) (s : List ℕ) (at : ℕ) (same : contentsOf d s ≡ contents
     rest-no-header w = rest-wrong (element-no-header d (part s at (length s)) n w)
 
     module _ (id a e : ℕ) (w : headerOf (part s at (length s)) ≡ At id a e) where
-      pub rest-fault : makesElement (d - 1) id (part (part s at (length s)) a e) ≡ false → false ≡ contentsOf d s
+      pub rest-fault : makesElement (contentsOf (d - 1)) id (part (part s at (length s)) a e) ≡ false → false ≡ contentsOf d s
       rest-fault r = rest-wrong (element-fault d (part s at (length s)) n id a e w r)
 
-      pub rest-step : makesElement (d - 1) id (part (part s at (length s)) a e) ≡ true → contentsOf d s ≡ contentsOf d (drop (at + e) s)
+      pub rest-step : makesElement (contentsOf (d - 1)) id (part (part s at (length s)) a e) ≡ true → contentsOf d s ≡ contentsOf d (drop (at + e) s)
       rest-step r =
           let good = element-good d (part s at (length s)) n id a e w r ∙ here in
           same ∙ contents-cons d (drop at s) e (good-size d (drop at s) e (sym good)) ∙ ap (contentsOf d) (drop-drop e at s)
@@ -120,9 +117,9 @@ module _ (d : ℕ) (s : List ℕ) (r : Checked) (q : r ≡ elementOf d s) where
 pub well-formed-headless : (d : ℕ) (s : List ℕ) → (d ≡ 0 → ⊥) → headerOf s ≡ NoHeader → wellFormed d s ≡ false
 well-formed-headless d s n w = sym (well-formed-fault d s Fault (element-no-header d s n w) refl)
 
-pub well-formed-at : (d : ℕ) (s : List ℕ) → (d ≡ 0 → ⊥) → (id a e : ℕ) → headerOf s ≡ At id a e → wellFormed d s ≡ (eqb e (length s) && makesElement (d - 1) id (part s a e))
-well-formed-at d s n id a e w = go (makesElement (d - 1) id (part s a e)) refl
+pub well-formed-at : (d : ℕ) (s : List ℕ) → (d ≡ 0 → ⊥) → (id a e : ℕ) → headerOf s ≡ At id a e → wellFormed d s ≡ (eqb e (length s) && makesElement (contentsOf (d - 1)) id (part s a e))
+well-formed-at d s n id a e w = go (makesElement (contentsOf (d - 1)) id (part s a e)) refl
   where
-    go : (b : Bool) → makesElement (d - 1) id (part s a e) ≡ b → wellFormed d s ≡ (eqb e (length s) && b)
+    go : (b : Bool) → makesElement (contentsOf (d - 1)) id (part s a e) ≡ b → wellFormed d s ≡ (eqb e (length s) && b)
     go true m = sym (and-true (eqb e (length s)) ∙ well-formed-by d s (Good e) (element-good d s n id a e w m) e refl)
     go false m = sym (and-false (eqb e (length s)) ∙ well-formed-fault d s Fault (element-fault d s n id a e w m) refl)

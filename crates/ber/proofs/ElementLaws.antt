@@ -14,7 +14,7 @@ use Rattle.ber.specs.declared.element.Checked.{Checked}
 use Rattle.ber.specs.declared.element.Checked.the-variants.{Good, Fault}
 use Rattle.ber.specs.Header.{headerOf}
 use Rattle.ber.specs.Rule.{contentRule}
-use Rattle.ber.specs.Element.{part, constructed, restRight, elementsIn, elementWith, elementOf, contentsOf, sizeIn, size, fills, wellFormed}
+use Rattle.ber.specs.Element.{part, constructed, makesElement, restRight, elementsIn, elementWith, elementOf, contentsOf, sizeIn, size, fills, wellFormed}
 use Rattle.ber.proofs.HeaderLaws.{Bounded, header-bounded}
 
 -- ---- the size and the answer of the check
@@ -45,7 +45,7 @@ with-within : (inside : List ℕ → Bool) (s : List ℕ) (h : Header) → Bound
 unfolding elementWith
 with-within inside s NoHeader b = tt
 with-within inside s (At id a e) b =
-    cond-elim (CheckedWithin (length s)) (contentRule id (part s a e) && cond (constructed id) (inside (part s a e)) true) (Good e) Fault (λ _. omega arith) (λ _. tt)
+    cond-elim (CheckedWithin (length s)) (makesElement inside id (part s a e)) (Good e) Fault (λ _. omega arith) (λ _. tt)
 
 element-within : (d : ℕ) (s : List ℕ) → CheckedWithin (length s) (elementOf d s)
 unfolding elementOf
@@ -124,7 +124,7 @@ good-facts (suc d) s n q = go (headerOf s) refl q
     go : (h : Header) → headerOf s ≡ h → elementWith (contentsOf d) s h ≡ Good n → Element (suc d) s n
     go NoHeader w x = let z : _≡_ {A = ℕ} 0 1 = cc in absurd (omega arith)
     go (At id a e) w x =
-        cond-elim (λ (c : Checked). c ≡ Good n → Element (suc d) s n) (contentRule id (part s a e) && cond (constructed id) (contentsOf d (part s a e)) true) (Good e) Fault
+        cond-elim (λ (c : Checked). c ≡ Good n → Element (suc d) s n) (makesElement (contentsOf d) id (part s a e)) (Good e) Fault
         (λ f y.
         let m : e ≡ n = cc in
         let o : d ≡ suc d - 1 = omega arith in

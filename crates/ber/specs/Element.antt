@@ -32,11 +32,14 @@ elementsIn first zero (b ∷ s) = false
 elementsIn first (suc n) [] = true
 elementsIn first (suc n) (b ∷ s) = restRight (elementsIn first n) (b ∷ s) (first (b ∷ s))
 
--- an element with this header: its contents follow their rule, and those of a constructed one are elements, which `inside` checks
+-- contents c make an element under an identifier: they follow its rule, and those of a constructed one are elements, which `inside` checks
+abbrev pub makesElement : (List ℕ → Bool) → ℕ → List ℕ → Bool
+makesElement inside id c = contentRule id c && cond (constructed id) (inside c) true
+
+-- an element with this header
 unfoldable pub elementWith : (List ℕ → Bool) → List ℕ → Header → Checked
 elementWith inside s NoHeader = Fault
-elementWith inside s (At id a e) =
-    cond (contentRule id (part s a e) && cond (constructed id) (inside (part s a e)) true) (Good e) Fault
+elementWith inside s (At id a e) = cond (makesElement inside id (part s a e)) (Good e) Fault
 
 -- the element at the front of s, with so many levels left: the outermost of 16 is level 1, and level 17 is refused
 unfoldable pub elementOf : ℕ → List ℕ → Checked

@@ -3,9 +3,7 @@ use crate::header::Header;
 use crate::header::header_of;
 use crate::rule::content_rule;
 ghost use mathlib.Core.Path.{_≡_};
-ghost use mathlib.Core.Bool.{true, cond, _&&_};
-ghost use Rattle.ber.specs.Rule.{contentRule};
-ghost use Rattle.ber.specs.Element.{constructed, elementOf, contentsOf, wellFormed};
+ghost use Rattle.ber.specs.Element.{makesElement, elementOf, contentsOf, wellFormed};
 
 // What a check finds at the front of octets: an element of so many octets, or a fault.
 pub enum Checked {
@@ -33,7 +31,7 @@ pub fn element(s: &[u8], levels: usize) -> Checked
 
 // Whether contents make an element under an identifier, with so many levels below it.
 pub fn is_element(id: u8, c: &[u8], levels: usize) -> bool
-    ensures { λ r. ⌜ r ≡ (contentRule id (now (c .entry)) && cond (constructed id) (contentsOf levels (now (c .entry))) true) ⌝ }
+    ensures { λ r. ⌜ r ≡ makesElement (contentsOf levels) id (now (c .entry)) ⌝ }
 {
     if !content_rule(id, c) {
         return false;

@@ -64,7 +64,7 @@ module _ (t : List ℕ) (l : laidOut t ≡ true) where
         eqb-true _ _ (and-right (eqb (start t ChildPairs) (behind t ErrorPairs)) _ c),
       )
 
-  pub part-inside : (k : Part) → behind t k ≤ length t
+  part-inside : (k : Part) → behind t k ≤ length t
   part-inside Operations = omega (arith, ends, start-behind t Errors, start-behind t ErrorPairs, start-behind t ChildPairs)
   part-inside Errors = omega (arith, ends, start-behind t ErrorPairs, start-behind t ChildPairs)
   part-inside ErrorPairs = omega (arith, ends, start-behind t ChildPairs)

@@ -11,7 +11,7 @@ use Rattle.optable.specs.declared.Part.the-variants.{Operations}
 use Rattle.optable.specs.declared.entry.Reached.{Reached}
 use Rattle.optable.specs.declared.entry.Counts.{Counts}
 
--- an entry of a table that is laid out stands where its index says, within the table, and so does the one before it
+-- an entry of a table that is laid out stands where its index says, within the table and so near that no sum wraps; so does the one before it
 pub record Stands (t : List ℕ) (k : Part) (e : Reached) : Type 0 where
   pub laid : laidOut t ≡ true
   pub here : e .at ≡ place t k (e .index)

@@ -29,7 +29,7 @@ use Rattle.rose.specs.Verdict.{first, readVerdict, isFound}
 
 -- ---- a record found is a member
 
-pub found-member : (n : ℕ) (l : List Record) → isFound (lookup n l) ≡ member n l
+found-member : (n : ℕ) (l : List Record) → isFound (lookup n l) ≡ member n l
 found-member n [] = refl
 found-member n (r ∷ l) = go (eqb (r .id) n) (found-member n l)
   where
