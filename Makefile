@@ -1,5 +1,6 @@
 # make demo: proves the library and runs a kiosk and a controller.
-# make test: proves every crate, tries the must-fail edits, runs the programs, then tests the second program and compares it with drive.
+# make test: proves every crate, tries the must-fail edits, runs the programs and tries each compiled in three ways, tests the second program,
+#   then plays P1 to P12, scripts of calls and both ends of an association on drive.
 # make bench: measures the calls beside the second program's; it also needs valgrind and python3.
 # The last line of make test is rt ci's 'N passed, 0 failed'; on a failure it is 'make test: failed'.
 SHELL := bash
@@ -29,9 +30,12 @@ test:
 	rt ci 2>&1 | tee "$$log"
 	last=$$(tail -n 1 "$$log")
 	[[ $$last =~ ^[0-9]+\ passed,\ 0\ failed$$ ]] || { echo "make test: rt ci did not end in 'N passed, 0 failed'"; exit 1; }
+	for program in drive demo tabcheck; do rt try "$$program"; done
 	cargo test --release --offline --quiet --manifest-path tests/second/Cargo.toml
 	cargo build --release --offline --quiet --manifest-path tests/second/Cargo.toml
-	tests/second/target/release/second compare target/bin/drive 40 2000
+	tests/second/target/release/second examples target/bin/drive places
+	tests/second/target/release/second compare target/bin/drive 40 2000 places
+	tests/second/target/release/second ends target/bin/drive 1 20000
 	echo "$$last"
 
 bench:

@@ -1,8 +1,8 @@
 #!/usr/bin/env python3
 """Changes the second program in one place at a time and shows that `second compare` finds each change.
 
-Prints a table of place, change, where compare found it, and whether a conclusion of `second ends` failed too.
-Fails if a change is not found or no longer applies.
+Prints a table of place, change, where compare found it, and whether `second ends` found it too. Both are run by the unchanged
+program beside the changed one. Fails if a change is not found or no longer applies.
 Use: python3 tests/mutants.py [WORD]   (WORD: only changes whose place or description contains it)
 """
 
@@ -16,7 +16,7 @@ import tempfile
 
 SECOND = pathlib.Path(__file__).resolve().parent / "second"
 SEEDS, CALLS = "40", "2000"
-ENDS_CALLS = "60000"
+ENDS_CALLS = "20000"
 
 # File, what the change is, the text, the text in its place; a fifth item means that `ends` must find it too.
 MUTANTS = [
@@ -59,7 +59,7 @@ MUTANTS = [
     ("apdu.rs", "05 00 with any problem", "(id.is_some() || matches!(problem, Problem::General(_)))", "true"),
     ("apdu.rs", "element behind 30 allowed", "        self.rest.is_empty().then_some(())?;\n        let mut inner", "        let mut inner"),
     ("apdu.rs", "wrong fields never carry the id", "read.ok_or(Unreadable { id: Some(id), ..mistyped })", "read.ok_or(mistyped)"),
-    ("apdu.rs", "a result's value one level up", "=> value + 2,", "=> value + 1,"),
+    ("apdu.rs", "a result's value one level up", "Outgoing::Result { .. } => 2,", "Outgoing::Result { .. } => 1,"),
     ("apdu.rs", "absent result written with a code", "            Outgoing::Result { id, value: [], .. } => writer.integer(ID, id),\n", ""),
     ("apdu.rs", "kind checked before well-formed octets", "return Err(unreadable(Problem::BADLY_STRUCTURED_APDU));",
      "let known = octets.first().is_none_or(|kind| (INVOKE..=REJECT).contains(kind));\n        return Err(unreadable(if known { Problem::BADLY_STRUCTURED_APDU } else { Problem::UNRECOGNIZED_APDU }));"),
@@ -104,11 +104,10 @@ MUTANTS = [
      "    if linked.is_some() && !value.is_empty() && octets::levels(value, State::LEVELS).is_none() {\n        return Err(Refusal::MalformedValue);\n    }\n    let class = |code| table.operation(code).map(|operation| operation.class);\n"),
     ("engine.rs", "15 before 14", "    if operation.class != 5 && state.own.is_full() {\n",
      "    if operation.class != 5 && state.own.is_full() && value.len() < State::OCTETS - 20 {\n"),
-    ("engine.rs", "12 after 13", "        .filter(|operation| !matches!(operation.class, 4 | 5))\n        .ok_or(Refusal::ClassForbids)?;\n", "        .ok_or(Refusal::ClassForbids)?;\n"),
+    ("engine.rs", "12 after 13", "id, Operation::has_errors, refusals)", "id, |_| true, refusals)"),
     ("engine.rs", "9 before 13", "    let error = table.error(code).filter(",
      "    if !value.is_empty() && octets::levels(value, State::LEVELS).is_none() {\n        return Err(Refusal::MalformedValue);\n    }\n    let error = table.error(code).filter("),
-    ("engine.rs", "result of class 5 allowed", "        .filter(|operation| !matches!(operation.class, 3 | 5))\n        .ok_or(Refusal::ClassForbids)?;\n",
-     "        .filter(|operation| !matches!(operation.class, 3))\n        .ok_or(Refusal::ClassForbids)?;\n"),
+    ("engine.rs", "result of class 5 allowed", "id, Operation::has_results, refusals)", "id, |operation| operation.class != 3, refusals)"),
     ("engine.rs", "11 before 16", "    if !matches!(problem, 2..=4) {\n", "    if !matches!(problem, 2..=4) && state.peer.find(id).is_some() {\n"),
     ("engine.rs", "unrecognizedOperation before the linked problems", "    let mut parent = None;\n",
      "    code.local().and_then(|code| table.operation(code)).ok_or(Problem::UNRECOGNIZED_OPERATION)?;\n    let mut parent = None;\n"),
@@ -117,15 +116,21 @@ MUTANTS = [
     ("engine.rs", "resourceLimitation before unexpectedLinkedOperation", "    if parent.is_some_and(|parent| !table.lists_child(&parent, &operation)) {\n",
      "    if parent.is_some_and(|parent| !table.lists_child(&parent, &operation)) && !(state.peer.is_full() && operation.class != 5) {\n"),
     ("engine.rs", "mistypedResult before another code", "    if returned.is_some_and(|(code, _)|", "    if operation.result.allows(returned.map(|(_, value)| value)) && returned.is_some_and(|(code, _)|"),
-    ("engine.rs", "unrecognizedError before errorResponseUnexpected", "        .filter(|operation| !matches!(operation.class, 4 | 5))\n        .ok_or(Problem::ERROR_RESPONSE_UNEXPECTED)?;\n",
-     "        .filter(|operation| !matches!(operation.class, 4 | 5) || code.local().and_then(|code| table.error(code)).is_none())\n        .ok_or(Problem::ERROR_RESPONSE_UNEXPECTED)?;\n"),
+    ("engine.rs", "unrecognizedError before errorResponseUnexpected", "    let (at, operation) = answered(table, &state.own, id, Operation::has_errors, problems)?;\n",
+     "    if state.own.find(id).is_some() {\n        code.local().and_then(|code| table.error(code)).ok_or(Problem::UNRECOGNIZED_ERROR)?;\n    }\n    let (at, operation) = answered(table, &state.own, id, Operation::has_errors, problems)?;\n"),
     ("engine.rs", "user reject with problem 1", "!matches!(problem, 2..=4)", "!matches!(problem, 1..=4)"),
-    ("engine.rs", "user reject retires nothing", "problem: Problem::Invoke(problem) }, 0, output)?;\n    state.peer.retire(at);\n", "problem: Problem::Invoke(problem) }, 0, output)?;\n    let _ = at;\n"),
+    ("engine.rs", "user reject retires nothing", "answer(state, at, Outgoing::Reject {", "let _ = at;\n    write(Outgoing::Reject {"),
     ("engine.rs", "forget of a peer's class 2 record", "matches!(operation.class, 1 | 2)", "matches!(operation.class, 1)"),
     ("engine.rs", "forget of an own class 1 record refused", "if awaited && matches!(invocation, Invocation::Peer(_)) {", "if awaited {"),
     ("engine.rs", "10 before 9", "    let given = (!value.is_empty()).then_some(value);\n", "    let given = (!value.is_empty()).then_some(value);\n    if !rule.allows(given) {\n        return Err(Refusal::ValueRuleBroken);\n    }\n"),
     ("engine.rs", "2 before 15", "    let octets = apdu.octets();\n", "    let octets = apdu.octets();\n    if output.len() < octets {\n        return Err(Refusal::ShortOutput);\n    }\n"),
     ("engine.rs", "output must be longer than the APDU", "if output.len() < octets {", "if output.len() <= octets {"),
+    ("engine.rs", "a refused error retires", "    if !table.lists_error(&operation, &error) {\n", "    if !table.lists_error(&operation, &error) {\n        state.own.retire(at);\n", "ends"),
+    ("engine.rs", "an octet behind the Reject is changed", "        Refusal::Rejected { problem, written }\n",
+     "        if let Some(behind) = output.get_mut(written) {\n            *behind = 0;\n        }\n        Refusal::Rejected { problem, written }\n", "ends"),
+    ("octets.rs", "a value's place is its last octet's", "(at, at + part.len())", "(at, at + part.len() - 1)"),
+    ("octets.rs", "a value's place is its contents'", "let at = part.as_ptr().addr() - octets.as_ptr().addr();", "let at = part.as_ptr().addr() - octets.as_ptr().addr() + 2;"),
+    ("answer.rs", "an error's parameter has no place", "Indication::Invoke { value, .. } | Indication::Error { value, .. }", "Indication::Invoke { value, .. }"),
 ]
 
 
@@ -155,9 +160,9 @@ def try_mutant(folder, unchanged, mutant):
     if built.returncode != 0:
         return "DOES NOT BUILD\n" + built.stderr, "", False
     program = folder / "target" / "debug" / "second"
-    found = subprocess.run([unchanged, "compare", program, SEEDS, CALLS], capture_output=True, text=True)
+    found = subprocess.run([unchanged, "compare", program, SEEDS, CALLS, "places"], capture_output=True, text=True)
     where = re.match(r"seed (\d+) call (\d+) differs", found.stdout)
-    run = subprocess.run([program, "ends", "1", ENDS_CALLS], capture_output=True, text=True)
+    run = subprocess.run([unchanged, "ends", program, "1", ENDS_CALLS], capture_output=True, text=True)
     by_ends = run.returncode != 0 and re.match(r"seed \d+ association \d+: ", run.stdout)
     right = bool(where) and found.returncode != 0 and (bool(by_ends) or ends != ["ends"])
     place = f"seed {where[1]} call {where[2]}" if where else "NOT FOUND"

@@ -3,14 +3,13 @@
 
 Each case is a script of one call with its table and state. Both programs make that call N times from the same state, once
 for a small and once for a larger N; the difference, divided, is one call's cost, so that starting up and reading the script
-do not count. Instructions are counted by valgrind's callgrind, times are processor time, the least of several runs.
-Prints a table and writes docs/bench.svg. Where asn1c is installed, its bare decode of P2 is timed beside our whole receive.
-Use: python3 tests/bench/bench.py [WORD]   (WORD: only cases whose name contains it; no picture is written then)
+do not count. Instructions are counted by valgrind's callgrind, so that each run gives the same.
+Prints a table and writes docs/bench.svg. Where asn1c is installed, its bare decode of P2 is counted beside our whole receive.
 """
 
+import argparse
 import pathlib
 import re
-import resource
 import shutil
 import struct
 import subprocess
@@ -19,7 +18,7 @@ import tempfile
 
 HERE = pathlib.Path(__file__).resolve().parent
 TOP = HERE.parent.parent
-OURS = [str(TOP / "target/bin/drive")]
+DRIVE = str(TOP / "target/bin/drive")
 SECOND = [str(TOP / "tests/second/target/release/second"), "repeat"]
 TABLE, STATE, RECEIVE, INVOKE, RESULT, ERROR = range(6)
 
@@ -101,35 +100,21 @@ def instructions(program, script, times):
         return int(re.search(rb"Collected : (\d+)", done.stderr).group(1)), done.stdout
 
 
-def seconds(program, script, times, runs=5):
-    """The least processor time that a run took."""
-    best = float("inf")
-    for _ in range(runs):
-        before = resource.getrusage(resource.RUSAGE_CHILDREN).ru_utime
-        subprocess.run([*program, str(times)], input=script, capture_output=True, check=True)
-        best = min(best, resource.getrusage(resource.RUSAGE_CHILDREN).ru_utime - before)
-    return best
-
-
 def cost(program, script):
-    """Instructions and nanoseconds of one call, and the line that it answered."""
+    """Instructions of one call, and the line that it answered."""
     (few, line), (many, again) = instructions(program, script, 100), instructions(program, script, 1100)
     assert line == again, "another answer the second time"
-    once = (many - few) / 1000
-    times = int(3e8 / max(once, 1))
-    spent = seconds(program, script, times) - seconds(program, script, 1)
-    return once, spent / times * 1e9, line
+    return (many - few) / 1000, line
 
 
-def row(name, script):
-    ours, our_time, line = cost(OURS, script)
-    theirs, their_time, their_line = cost(SECOND, script)
+def row(drive, name, script):
+    (ours, line), (theirs, their_line) = cost([drive], script), cost(SECOND, script)
     assert line == their_line, f"{name}: the two answer differently:\n{line}{their_line}"
-    return name, ours, theirs, ours / theirs, our_time, their_time, our_time / their_time
+    return name, ours, theirs, ours / theirs
 
 
 def asn1c():
-    """Instructions and nanoseconds of one bare decode of P2 by asn1c's decoder, or nothing where asn1c is not installed."""
+    """Instructions of one bare decode of P2 by asn1c's decoder, or nothing where asn1c is not installed."""
     if not shutil.which("asn1c"):
         return None
     with tempfile.TemporaryDirectory() as folder:
@@ -138,8 +123,7 @@ def asn1c():
         sources = sorted(str(path) for path in pathlib.Path(folder).glob("*.c"))
         program = [f"{folder}/decode"]
         subprocess.run(["gcc", "-O2", "-w", f"-I{folder}", "-o", *program, *sources, str(HERE / "decode.c")], check=True)
-        once = (instructions(program, b"", 1100)[0] - instructions(program, b"", 100)[0]) / 1000
-        return once, (seconds(program, b"", 100_000) - seconds(program, b"", 1)) / 100_000 * 1e9
+        return (instructions(program, b"", 1100)[0] - instructions(program, b"", 100)[0]) / 1000
 
 
 def picture(rows):
@@ -152,7 +136,7 @@ def picture(rows):
            "<style>text{font:12px sans-serif;fill:#1b1f24}.bar{fill:#4a7fb5}.one{stroke:#1b1f24;stroke-dasharray:4 3}"
            "@media(prefers-color-scheme:dark){text{fill:#e6edf3}.bar{fill:#79b8ff}.one{stroke:#e6edf3}}</style>",
            f'<text x="{left}" y="16">instructions of a call, over those of the second program</text>']
-    for place, (name, _, _, ratio, *_) in enumerate(rows):
+    for place, (name, _, _, ratio) in enumerate(rows):
         y = 30 + place * high
         out.append(f'<text x="{left - 8}" y="{y + 12}" text-anchor="end">{name}</text>'
                    f'<rect class="bar" x="{left}" y="{y}" width="{ratio * scale:.0f}" height="16"/>'
@@ -161,25 +145,31 @@ def picture(rows):
     (TOP / "docs/bench.svg").write_text("\n".join(out) + "\n")
 
 
+def arguments():
+    parser = argparse.ArgumentParser(description=__doc__, formatter_class=argparse.RawDescriptionHelpFormatter)
+    parser.add_argument("word", nargs="?", default="", help="only cases whose name contains it; no picture is written then")
+    parser.add_argument("--drive", default=DRIVE, metavar="PATH", help="the drive to measure in place of target/bin/drive")
+    return parser.parse_args()
+
+
 def main():
-    word = sys.argv[1] if len(sys.argv) > 1 else ""
-    for program in (OURS[0], SECOND[0]):
+    given = arguments()
+    for program in (given.drive, SECOND[0]):
         if not pathlib.Path(program).exists():
             sys.exit(f"bench: {program} is missing; make bench builds it")
     if not shutil.which("valgrind"):
         sys.exit("bench: valgrind is missing; it counts the instructions")
-    print("| call | instructions | second's | ratio | ns | second's | ratio |\n|---|---|---|---|---|---|---|", flush=True)
+    print("| call | instructions | second's | ratio |\n|---|---|---|---|", flush=True)
     rows = []
     for name, script in cases():
-        if word in name:
-            rows.append(row(name, script))
-            print("| {} | {:,.0f} | {:,.0f} | {:.2f} | {:,.0f} | {:,.0f} | {:.2f} |".format(*rows[-1]), flush=True)
+        if given.word in name:
+            rows.append(row(given.drive, name, script))
+            print("| {} | {:,.0f} | {:,.0f} | {:.2f} |".format(*rows[-1]), flush=True)
     bare = asn1c()
-    for name, ours, _, _, our_time, *_ in rows:
+    for name, ours, *_ in rows:
         if bare and name.startswith("P2"):
-            print("\nasn1c's bare decode of P2: {:,.0f} instructions, {:,.0f} ns; our whole receive of P2 is {:.2f} and {:.2f} of it".format(
-                *bare, ours / bare[0], our_time / bare[1]))
-    if not word:
+            print(f"\nasn1c's bare decode of P2: {bare:,.0f} instructions; our whole receive of P2 is {ours / bare:.2f} of it")
+    if not given.word:
         picture(rows)
 
 

@@ -1,6 +1,48 @@
 //! What the six calls answer: indications, refusals and problems.
 //! Follows document 01, "Receiving" and the table of refusal numbers.
 
+/// The calls and the refusals each can give, in order of check.
+pub const REFUSALS: [(&str, &[u8]); 6] = [
+    ("receive", &[19, 1, 3, 2, 17, 18]),
+    ("invoke", &[19, 1, 4, 5, 6, 7, 8, 9, 10, 14, 15, 2]),
+    ("result", &[19, 1, 11, 12, 9, 10, 15, 2]),
+    ("error", &[19, 1, 11, 12, 13, 9, 10, 15, 2]),
+    ("user reject", &[19, 1, 16, 11, 2]),
+    ("forget", &[19, 1, 11, 12]),
+];
+
+/// What a call answered.
+#[derive(Clone, Copy, Debug, PartialEq, Eq)]
+pub enum Answer<'a> {
+    Indicated(Indication<'a>),
+    Sent { written: usize },
+    Forgotten,
+    Refused(Refusal),
+}
+
+impl<'a> Answer<'a> {
+    pub fn is_accepted(&self) -> bool {
+        !matches!(self, Answer::Refused(_))
+    }
+
+    /// How many octets the call wrote.
+    pub fn written(&self) -> usize {
+        match *self {
+            Answer::Sent { written } | Answer::Refused(Refusal::Rejected { written, .. }) => written,
+            _ => 0,
+        }
+    }
+
+    /// The value of an indication, if it has one.
+    pub fn value(&self) -> Option<&'a [u8]> {
+        match *self {
+            Answer::Indicated(Indication::Invoke { value, .. } | Indication::Error { value, .. }) => value,
+            Answer::Indicated(Indication::Result { value, .. }) => Some(value),
+            _ => None,
+        }
+    }
+}
+
 /// What an accepted receive shows. Values are parts of the lent APDU, identifier included.
 #[derive(Clone, Copy, Debug, PartialEq, Eq)]
 pub enum Indication<'a> {
@@ -121,6 +163,33 @@ pub enum Refusal {
 }
 
 impl Refusal {
+    /// Every refusal but 18, in document 01's order.
+    const PLAIN: [Refusal; 18] = [
+        Refusal::InvalidTable,
+        Refusal::ShortOutput,
+        Refusal::ReceivedTooLong,
+        Refusal::UnknownOperation,
+        Refusal::IdInUse,
+        Refusal::SynchronousInvocationLive,
+        Refusal::UnknownLinkedId,
+        Refusal::NotAChild,
+        Refusal::MalformedValue,
+        Refusal::ValueRuleBroken,
+        Refusal::NoSuchRecord,
+        Refusal::ClassForbids,
+        Refusal::UnlistedError,
+        Refusal::OwnRecordsFull,
+        Refusal::ApduTooLarge,
+        Refusal::NoUserProblem,
+        Refusal::UnacceptableReject,
+        Refusal::UnsoundState,
+    ];
+
+    /// The refusal of a number, if there is one that needs no problem.
+    pub fn plain(number: u8) -> Option<Refusal> {
+        Self::PLAIN.into_iter().find(|refusal| refusal.number() == number)
+    }
+
     /// Document 01's number.
     pub fn number(self) -> u8 {
         match self {

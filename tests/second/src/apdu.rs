@@ -17,7 +17,7 @@ const NO_LINKED: u8 = 0x81;
 const SEQUENCE: u8 = 0x30;
 
 /// A received APDU with right fields.
-#[derive(Clone, Copy)]
+#[derive(Clone, Copy, PartialEq, Eq)]
 pub enum Apdu<'a> {
     Invoke(Invoke<'a>),
     Result { id: i32, returned: Option<(Code, &'a [u8])> },
@@ -25,7 +25,7 @@ pub enum Apdu<'a> {
     Reject { id: Option<i32>, problem: Problem },
 }
 
-#[derive(Clone, Copy)]
+#[derive(Clone, Copy, PartialEq, Eq)]
 pub struct Invoke<'a> {
     pub id: i32,
     pub linked: Option<i32>,
@@ -175,12 +175,13 @@ impl Outgoing<'_> {
         element_octets(self.contents())
     }
 
-    /// How many levels a value of so many levels makes in this APDU.
+    /// How many levels the APDU has with a value of so many, 0 for none; the id is at level 2.
     pub fn levels(&self, value: usize) -> usize {
-        match self {
-            Outgoing::Result { .. } => value + 2,
-            _ => value + 1,
-        }
+        let around = match self {
+            Outgoing::Result { .. } => 2,
+            _ => 1,
+        };
+        2.max(value + around)
     }
 
     fn contents(&self) -> usize {

@@ -3,7 +3,7 @@
 use crate::frame::{self, Frame};
 use crate::generate::{live, Generator, Group};
 use crate::table::Rule;
-use crate::values::{self, element, integer_contents, put_element};
+use crate::values::{self, element, element_in_form, integer_contents};
 
 impl Generator<'_> {
     pub(crate) fn receive(&mut self) {
@@ -42,7 +42,7 @@ impl Generator<'_> {
             fields.push(self.number(0x80, |_| id));
         } else if self.random.percent(12) {
             let form = values::form(&mut self.random, 0);
-            fields.push(with_form(0x81, &[], form));
+            fields.push(element_in_form(0x81, &[], form));
         }
         let known = row.filter(|_| !self.fault()).map(|row| row.code);
         fields.push(self.code(known));
@@ -80,14 +80,14 @@ impl Generator<'_> {
         let own = self.random.percent(70);
         let id = if kind == 0 && self.random.percent(50) || self.fault() && self.random.percent(30) {
             let form = values::form(&mut self.random, 0);
-            with_form(0x05, &[], form)
+            element_in_form(0x05, &[], form)
         } else {
             self.number(0x02, |this| this.id(own, true))
         };
         let numbers = [3, 8, 3, 5][kind] + usize::from(self.fault());
         let number = self.random.below(numbers);
         let form = values::form(&mut self.random, 1);
-        let problem = with_form(0x80 + kind as u8 + u8::from(self.fault()), &[number as u8], form);
+        let problem = element_in_form(0x80 + kind as u8 + u8::from(self.fault()), &[number as u8], form);
         self.apdu(0xA4, vec![id, problem])
     }
 
@@ -102,7 +102,7 @@ impl Generator<'_> {
             }
         }
         let form = values::form(&mut self.random, contents.len());
-        with_form(identifier, &contents, form)
+        element_in_form(identifier, &contents, form)
     }
 
     /// A code of the table, or one that equals none.
@@ -133,7 +133,7 @@ impl Generator<'_> {
             true => [0xA0, 0xA1, 0xA2, 0xA3, 0xA4, 0xA5, 0x30, 0x31, 0xB1][self.random.below(9)],
             false => identifier,
         };
-        with_form(identifier, &contents, form)
+        element_in_form(identifier, &contents, form)
     }
 
     fn spoil(&mut self, fields: &mut Vec<Vec<u8>>) {
@@ -151,10 +151,4 @@ impl Generator<'_> {
             _ => fields[at] = extra,
         }
     }
-}
-
-fn with_form(identifier: u8, contents: &[u8], form: usize) -> Vec<u8> {
-    let mut octets = Vec::with_capacity(contents.len() + 4);
-    put_element(&mut octets, identifier, contents, form);
-    octets
 }

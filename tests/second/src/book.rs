@@ -3,9 +3,8 @@
 
 use std::collections::{HashMap, HashSet};
 
-use crate::answer::{Indication, Problem, Refusal};
+use crate::answer::{Answer, Indication, Problem, Refusal};
 use crate::apdu::{self, Apdu, Code};
-use crate::drive::Answer;
 use crate::frame::{self, Frame};
 use crate::show;
 use crate::table::Table;

@@ -1,13 +1,12 @@
 //! Plays generated scripts on another program and here, and shows the first difference.
 
-use std::io::{Read, Write};
 use std::ops::RangeInclusive;
-use std::process::{Command, Stdio};
 use std::time::Instant;
 
 use crate::drive::{self, Drive, Step};
 use crate::frame::Frame;
 use crate::generate;
+use crate::process;
 use crate::show;
 
 /// Where two programs first differ: the call of a script, counted from 1, and both lines.
@@ -17,16 +16,21 @@ pub struct Difference {
     pub there: String,
 }
 
-/// Plays scripts of so many calls for each seed; true if there is no difference.
-pub fn compare(program: &str, seeds: RangeInclusive<u64>, calls: usize) -> Result<bool, String> {
+/// Plays scripts of so many calls for each seed, with or without places; true if there is no difference.
+pub fn compare(program: &str, seeds: RangeInclusive<u64>, calls: usize, places: bool) -> Result<bool, String> {
     let (start, mut played, mut lines) = (Instant::now(), 0, Vec::new());
     for seed in seeds {
         let script = generate::script(seed, calls);
         lines.clear();
-        drive::play(&script[..], &mut lines, 1).map_err(|error| format!("playing seed {seed}: {error}"))?;
-        let theirs = run(program, &script)?;
+        drive::play(&script[..], &mut lines, Drive::default().showing_places(places))
+            .map_err(|error| format!("playing seed {seed}: {error}"))?;
+        let (theirs, status) = process::play(program, places, &script)?;
         if let Some(difference) = first_difference(&lines, &theirs) {
             print!("{}", describe(seed, &script, &difference));
+            return Ok(false);
+        }
+        if !status.success() {
+            println!("seed {seed}: no line differs, but {program} ended with {status}");
             return Ok(false);
         }
         played += calls;
@@ -34,24 +38,6 @@ pub fn compare(program: &str, seeds: RangeInclusive<u64>, calls: usize) -> Resul
     let seconds = start.elapsed().as_secs_f64();
     println!("no difference in {played} calls, {seconds:.1} s, {:.0} calls a second", played as f64 / seconds);
     Ok(true)
-}
-
-/// What the program writes for the script.
-fn run(program: &str, script: &[u8]) -> Result<Vec<u8>, String> {
-    let spawned = Command::new(program).stdin(Stdio::piped()).stdout(Stdio::piped()).spawn();
-    let mut child = spawned.map_err(|error| {
-        format!("{program} does not start ({error}): give the path of a program that needs no arguments")
-    })?;
-    let (input, output) = (child.stdin.take(), child.stdout.take());
-    let mut lines = Vec::new();
-    let read = std::thread::scope(|scope| {
-        // A program that ends early closes its input; its lines then show the difference.
-        scope.spawn(move || input.map(|mut input| input.write_all(script)));
-        output.map_or(Ok(0), |mut output| output.read_to_end(&mut lines))
-    });
-    read.map_err(|error| format!("reading from {program}: {error}"))?;
-    child.wait().map_err(|error| format!("waiting for {program}: {error}"))?;
-    Ok(lines)
 }
 
 /// The first line in which the answers differ.

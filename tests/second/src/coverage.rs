@@ -2,9 +2,8 @@
 
 use std::collections::HashMap;
 
-use crate::answer::{Problem, Refusal};
+use crate::answer::{Answer, Problem, Refusal, REFUSALS};
 use crate::cases;
-use crate::drive::Answer;
 use crate::faults;
 use crate::frame;
 use crate::generate::{self, Group, Label, Seen};
@@ -15,16 +14,6 @@ pub const SEEDS: u64 = 40;
 pub const CALLS: usize = 2000;
 const LEAST: u64 = 50;
 const LEAST_ACCEPTED_PERCENT: u64 = 30;
-
-/// The calls and the refusals each can give, in order of check.
-const REFUSALS: [(&str, &[u8]); 6] = [
-    ("receive", &[19, 1, 3, 2, 17, 18]),
-    ("invoke", &[19, 1, 4, 5, 6, 7, 8, 9, 10, 14, 15, 2]),
-    ("result", &[19, 1, 11, 12, 9, 10, 15, 2]),
-    ("error", &[19, 1, 11, 12, 13, 9, 10, 15, 2]),
-    ("user reject", &[19, 1, 16, 11, 2]),
-    ("forget", &[19, 1, 11, 12]),
-];
 
 /// Every problem that a receive can give.
 const PROBLEMS: [&str; 20] = [

@@ -4,10 +4,12 @@
 use std::hint::black_box;
 use std::io::{self, Read, Write};
 
-use crate::answer::{Indication, Problem, Refusal};
+use crate::answer::Answer;
 use crate::engine::{self, Invocation};
 use crate::frame::{self, Frame};
-use crate::state::{Record, Side, State};
+use crate::line::{self, Line};
+use crate::octets;
+use crate::state::State;
 
 /// What the lent output is filled with before each call.
 const FILLER: u8 = 0xA5;
@@ -19,29 +21,8 @@ pub struct Drive {
     output: Vec<u8>,
     /// How often each call is made, for measuring: each time from the state as it was.
     times: u64,
-}
-
-/// What a call answered.
-#[derive(Clone, Copy, Debug, PartialEq, Eq)]
-pub enum Answer<'a> {
-    Indicated(Indication<'a>),
-    Sent { written: usize },
-    Forgotten,
-    Refused(Refusal),
-}
-
-impl Answer<'_> {
-    pub fn is_accepted(&self) -> bool {
-        !matches!(self, Answer::Refused(_))
-    }
-
-    /// How many octets the call wrote.
-    pub fn written(&self) -> usize {
-        match *self {
-            Answer::Sent { written } | Answer::Refused(Refusal::Rejected { written, .. }) => written,
-            _ => 0,
-        }
-    }
+    /// Whether each line ends with the place of the indicated value.
+    places: bool,
 }
 
 /// What a frame did.
@@ -59,7 +40,15 @@ impl Default for Drive {
 
 impl Drive {
     pub fn new(table: Vec<u8>, state: State) -> Self {
-        Drive { table, state, output: vec![FILLER; usize::from(u16::MAX)], times: 1 }
+        Drive { table, state, output: vec![FILLER; usize::from(u16::MAX)], times: 1, places: false }
+    }
+
+    pub fn repeating(self, times: u64) -> Self {
+        Drive { times, ..self }
+    }
+
+    pub fn showing_places(self, places: bool) -> Self {
+        Drive { places, ..self }
     }
 
     pub fn step<'a>(&mut self, frame: &Frame<'a>) -> Step<'a> {
@@ -115,43 +104,39 @@ impl Drive {
         &self.output[..written]
     }
 
-    /// Appends the line of a call.
-    pub fn line(&self, answer: &Answer<'_>, lent: u16, line: &mut Vec<u8>) {
-        put_answer(line, answer);
-        for (name, side) in [(" own ", &self.state.own), (" peer ", &self.state.peer)] {
-            put(line, name);
-            put_hex(line, &side.count.to_be_bytes());
-            put_places(line, side);
+    /// Plays a frame and appends the line of a call; false if the frame ends the run.
+    pub fn play(&mut self, frame: &Frame<'_>, line: &mut Vec<u8>) -> bool {
+        match self.step(frame) {
+            Step::Set => true,
+            Step::Called(answer) => {
+                self.put_line(frame, answer, line);
+                true
+            }
+            Step::End => false,
         }
-        put(line, " out ");
-        let (written, behind) = self.output[..usize::from(lent)].split_at(answer.written());
-        put_octets(line, (!written.is_empty()).then_some(written), "-");
-        if behind.iter().fold(0, |changed, octet| changed | (octet ^ FILLER)) != 0 {
-            put(line, " spoiled");
+    }
+
+    fn put_line(&self, frame: &Frame<'_>, answer: Answer<'_>, line: &mut Vec<u8>) {
+        let (written, behind) = self.output[..usize::from(frame.lent)].split_at(answer.written());
+        let spoiled = behind.iter().fold(0, |changed, octet| changed | (octet ^ FILLER)) != 0;
+        Line { answer, state: &self.state, written, spoiled }.put(line);
+        if self.places {
+            line::put_place(line, answer.value().map(|value| octets::place(frame.payload, value)));
         }
         line.push(b'\n');
     }
 }
 
-/// Plays a script until it ends; writes one line for each call, which is made so many times.
-pub fn play(mut script: impl Read, mut lines: impl Write, times: u64) -> io::Result<()> {
-    let mut drive = Drive { times, ..Drive::default() };
+/// Plays a script until it ends; writes one line for each call, at once.
+pub fn play(mut script: impl Read, mut lines: impl Write, mut drive: Drive) -> io::Result<()> {
     let (mut header, mut payload, mut line) = ([0; frame::HEADER], Vec::new(), Vec::new());
     while fill(&mut script, &mut header)? {
         payload.resize(Frame::payload_octets(&header), 0);
-        if !fill(&mut script, &mut payload)? {
+        line.clear();
+        if !fill(&mut script, &mut payload)? || !drive.play(&Frame::new(&header, &payload), &mut line) {
             break;
         }
-        let frame = Frame::new(&header, &payload);
-        match drive.step(&frame) {
-            Step::Set => {}
-            Step::Called(answer) => {
-                line.clear();
-                drive.line(&answer, frame.lent, &mut line);
-                lines.write_all(&line)?;
-            }
-            Step::End => break,
-        }
+        lines.write_all(&line)?;
     }
     lines.flush()
 }
@@ -162,112 +147,4 @@ fn fill(script: &mut impl Read, buffer: &mut [u8]) -> io::Result<bool> {
         Err(error) if error.kind() == io::ErrorKind::UnexpectedEof => Ok(false),
         other => other.map(|()| true),
     }
-}
-
-fn put_answer(line: &mut Vec<u8>, answer: &Answer<'_>) {
-    match *answer {
-        Answer::Indicated(indication) => put_indication(line, indication),
-        Answer::Sent { .. } => put(line, "sent"),
-        Answer::Forgotten => put(line, "forgotten"),
-        Answer::Refused(refusal) => {
-            put(line, "refused ");
-            put(line, &refusal.number().to_string());
-            if let Refusal::Rejected { problem, .. } = refusal {
-                put_problem(line, problem);
-            }
-        }
-    }
-}
-
-fn put_indication(line: &mut Vec<u8>, indication: Indication<'_>) {
-    match indication {
-        Indication::Invoke { id, linked, code, value } => {
-            put_kind(line, "invoke", Some(id));
-            put_number(line, linked);
-            put_number(line, Some(code));
-            put_value(line, value);
-        }
-        Indication::Result { id, code, value, operation } => {
-            put_kind(line, "result", Some(id));
-            put_number(line, Some(code));
-            put_value(line, Some(value));
-            put_operation(line, operation);
-        }
-        Indication::AbsentResult { id, operation } => {
-            put_kind(line, "result", Some(id));
-            put(line, " none none");
-            put_operation(line, operation);
-        }
-        Indication::Error { id, code, value, operation } => {
-            put_kind(line, "error", Some(id));
-            put_number(line, Some(code));
-            put_value(line, value);
-            put_operation(line, operation);
-        }
-        Indication::UserReject { id, problem } => {
-            put_kind(line, "reject-u", Some(id));
-            put_problem(line, problem);
-        }
-        Indication::ProviderReject { id, problem } => {
-            put_kind(line, "reject-p", id);
-            put_problem(line, problem);
-        }
-    }
-}
-
-fn put_kind(line: &mut Vec<u8>, kind: &str, id: Option<i32>) {
-    put(line, kind);
-    put_number(line, id);
-}
-
-fn put(line: &mut Vec<u8>, text: &str) {
-    line.extend_from_slice(text.as_bytes());
-}
-
-fn put_number(line: &mut Vec<u8>, number: Option<i32>) {
-    line.push(b' ');
-    match number {
-        Some(number) => put_hex(line, &number.to_be_bytes()),
-        None => put(line, "none"),
-    }
-}
-
-fn put_value(line: &mut Vec<u8>, value: Option<&[u8]>) {
-    line.push(b' ');
-    put_octets(line, value, "none");
-}
-
-fn put_octets(line: &mut Vec<u8>, octets: Option<&[u8]>, none: &str) {
-    match octets {
-        Some(octets) => put_hex(line, octets),
-        None => put(line, none),
-    }
-}
-
-fn put_operation(line: &mut Vec<u8>, operation: i32) {
-    put(line, " op");
-    put_number(line, Some(operation));
-}
-
-fn put_problem(line: &mut Vec<u8>, problem: Problem) {
-    let (identifier, number) = problem.octets();
-    line.push(b' ');
-    put_hex(line, &[identifier]);
-    line.push(b' ');
-    put_hex(line, &[number]);
-}
-
-/// Each place below the count, and every place up to the last that is not 0:0.
-fn put_places(line: &mut Vec<u8>, side: &Side) {
-    let used = side.places.iter().rposition(|&place| place != Record::default()).map_or(0, |last| last + 1);
-    for place in &side.places[..used.max(side.live().len())] {
-        put_number(line, Some(place.id));
-        line.push(b':');
-        put_hex(line, &place.code.to_be_bytes());
-    }
-}
-
-fn put_hex(line: &mut Vec<u8>, octets: &[u8]) {
-    const DIGITS: &[u8; 16] = b"0123456789abcdef";
-    line.extend(octets.iter().flat_map(|octet| [octet >> 4, octet & 15].map(|digit| DIGITS[usize::from(digit)])));
 }

@@ -1,13 +1,16 @@
 //! A kiosk with table O and a controller with table N, which extends O, over a channel that loses, repeats and
-//! reorders; every call is noted in the book of demand 3 and checked.
+//! reorders; every call is noted in the book of demand 3 and checked. Both ends are played by this program's engine
+//! or by another program.
 
 use crate::book::{Book, End, ROWS};
-use crate::drive::{Drive, Step};
+use crate::drive::Drive;
 use crate::frame::{self, Frame};
 use crate::model::{extends, Model};
+use crate::player::{Played, Player};
+use crate::process::Process;
 use crate::random::Random;
 use crate::show;
-use crate::state::{Record, State};
+use crate::state::Record;
 use crate::table::{Rule, Table};
 use crate::values;
 
@@ -16,38 +19,43 @@ const LEAST: u64 = 1000;
 const LONG: u64 = 1_000_000;
 
 /// Runs associations until so many calls are made: the counts, and whether all is as demand 3 says and often enough.
-pub fn run(seed: u64, calls: u64) -> (String, bool) {
+/// A program, if one is named, plays both ends.
+pub fn run(program: Option<&str>, seed: u64, calls: u64) -> Result<(String, bool), String> {
     let mut random = Random::new(seed);
     let (mut counts, mut made, mut accepted, mut associations) = ([0; ROWS.len()], 0, 0, 0);
     while made < calls {
         associations += 1;
         let most = random.between(300, 3000) as u64;
-        let mut association = Association::new(&mut random);
+        let mut association = Association::new(&mut random, program)?;
         let stop = most.min(calls - made);
         for _ in 0..stop {
             if let Err(wrong) = association.step() {
-                return (format!("seed {seed} association {associations}: {wrong}\n"), false);
+                return Ok((format!("seed {seed} association {associations}: {wrong}\n"), false));
             }
         }
         made += stop;
         accepted += association.accepted;
         counts.iter_mut().zip(association.book.counts).for_each(|(sum, count)| *sum += count);
     }
-    let least = LEAST * calls / LONG;
-    let mut text = format!("{made} calls in {associations} associations, {accepted} accepted\n");
-    for (row, count) in ROWS.iter().zip(counts) {
+    let (rows, enough) = report(&counts, LEAST * calls / LONG);
+    Ok((format!("{made} calls in {associations} associations, {accepted} accepted\n{rows}"), enough))
+}
+
+/// How often each row occurred, and whether that is often enough.
+fn report(counts: &[u64], least: u64) -> (String, bool) {
+    let mut text = String::new();
+    for (row, &count) in ROWS.iter().zip(counts) {
         text += &format!("{count:8}  {row}{}\n", if count < least { "  TOO FEW" } else { "" });
     }
     let enough = counts.iter().all(|&count| count >= least);
-    text +=
-        &format!("no conclusion failed, each row needs {least}: {}\n", if enough { "enough" } else { "NOT ENOUGH" });
-    (text, enough)
+    let verdict = if enough { "enough" } else { "NOT ENOUGH" };
+    (text + &format!("no conclusion failed, each row needs {least}: {verdict}\n"), enough)
 }
 
 struct Association<'r> {
     random: &'r mut Random,
     book: Book,
-    drives: [Drive; 2],
+    ends: [Played; 2],
     models: [Model; 2],
     /// How far each end has read the other's APDUs in order.
     read: [usize; 2],
@@ -55,18 +63,11 @@ struct Association<'r> {
 }
 
 impl<'r> Association<'r> {
-    fn new(random: &'r mut Random) -> Self {
-        let (o, n) = loop {
-            let o = Model::random(random);
-            let n = o.extended(random);
-            let (old, new) = (o.octets(), n.octets());
-            if let (Some(old), Some(new)) = (Table::new(&old), Table::new(&new)) {
-                assert!(extends(&new, &old), "the controller's table extends the kiosk's");
-                break (o, n);
-            }
-        };
-        let drives = [&o, &n].map(|model| Drive::new(model.octets(), State::fresh()));
-        Association { random, book: Book::default(), drives, models: [o, n], read: [0; 2], accepted: 0 }
+    fn new(random: &'r mut Random, program: Option<&str>) -> Result<Self, String> {
+        let (o, n) = tables(random);
+        let [kiosk, controller] = [&o, &n].map(|model| Played::new(player(program)?, &model.octets()));
+        let (ends, models) = ([kiosk?, controller?], [o, n]);
+        Ok(Association { random, book: Book::default(), ends, models, read: [0; 2], accepted: 0 })
     }
 
     /// One call at one end, checked and noted.
@@ -84,15 +85,17 @@ impl<'r> Association<'r> {
     }
 
     fn call(&mut self, end: End, frame: Frame<'_>) -> Result<(), String> {
-        let drive = &mut self.drives[end as usize];
-        let Step::Called(answer) = drive.step(&frame) else { return Ok(()) };
-        let written = drive.output(answer.written()).to_vec();
-        self.accepted += u64::from(answer.is_accepted());
         let octets = self.models[0].octets();
         let o = Table::new(&octets).ok_or("the kiosk's table is not valid")?;
-        self.book
-            .note(&o, end, (&frame, &answer, &written))
-            .map_err(|wrong| format!("{wrong}\nat the {end:?}, {}{}", show::frame(&frame), show::table(&octets)))
+        let noted = self.ends[end as usize].call(&frame).and_then(|line| {
+            self.accepted += u64::from(line.answer.is_accepted());
+            self.book.note(&o, end, (&frame, &line.answer, line.written))
+        });
+        noted.map_err(|wrong| {
+            let table = show::table(&self.models[end as usize].octets());
+            let state = show::state(self.ends[end as usize].before());
+            format!("{wrong}\n\nat the {end:?}, {}{state}{table}", show::frame(&frame))
+        })
     }
 
     /// Hands over the next APDU, skips some, or takes an old or recent one again.
@@ -141,7 +144,7 @@ impl<'r> Association<'r> {
         if end == End::Controller {
             return self.random.number();
         }
-        let live = self.drives[0].state.own.live().first();
+        let live = self.ends[end as usize].state().own.live().first().copied();
         if let Some(record) = live.filter(|record| self.book.live().contains(&record.id) && self.random.percent(5)) {
             return record.id;
         }
@@ -186,14 +189,14 @@ impl<'r> Association<'r> {
     /// Forgets an own record mostly, so that late answers come; else a peer record.
     fn forget(&mut self, end: End) -> Result<(), String> {
         let own = self.random.percent(80);
-        let state = &self.drives[end as usize].state;
+        let state = self.ends[end as usize].state();
         let side = if own { &state.own } else { &state.peer };
         let id = self.random.pick(side.live()).map_or(7, |record| record.id);
         self.call(end, Frame { kind: frame::FORGET, detail: u8::from(!own), id, ..Frame::default() })
     }
 
     fn peer_record(&mut self, end: End) -> Option<Record> {
-        self.random.pick(self.drives[end as usize].state.peer.live())
+        self.random.pick(self.ends[end as usize].state().peer.live())
     }
 
     /// A right value, or none where none is right; rarely one that breaks the rule.
@@ -213,4 +216,25 @@ impl<'r> Association<'r> {
             1000
         }
     }
+}
+
+/// A valid table O, and a valid table N that extends it.
+fn tables(random: &mut Random) -> (Model, Model) {
+    loop {
+        let o = Model::random(random);
+        let n = o.extended(random);
+        let (old, new) = (o.octets(), n.octets());
+        if let (Some(old), Some(new)) = (Table::new(&old), Table::new(&new)) {
+            assert!(extends(&new, &old), "the controller's table extends the kiosk's");
+            return (o, n);
+        }
+    }
+}
+
+/// The program, started anew, or this program's engine.
+fn player(program: Option<&str>) -> Result<Box<dyn Player>, String> {
+    Ok(match program {
+        Some(program) => Box::new(Process::start(program)?),
+        None => Box::new(Drive::default()),
+    })
 }

@@ -5,7 +5,7 @@ use crate::answer::{Indication, Problem, Refusal};
 use crate::apdu::{self, Apdu, Code, Invoke, Outgoing};
 use crate::octets;
 use crate::state::{Side, State};
-use crate::table::{Rule, Table};
+use crate::table::{Operation, Rule, Table};
 
 /// The longest Reject; receive needs room for it.
 pub const REJECT_OCTETS: usize = 11;
@@ -16,6 +16,9 @@ pub enum Invocation {
     Own(i32),
     Peer(i32),
 }
+
+/// How many octets a request wrote, or why it was refused.
+type Sent = Result<usize, Refusal>;
 
 /// The check every call starts with: 19, then 1.
 fn open<'t>(table: &'t [u8], state: &State) -> Result<Table<'t>, Refusal> {
@@ -101,11 +104,8 @@ fn receive_result<'a>(
     id: i32,
     returned: Option<(Code, &'a [u8])>,
 ) -> Result<Indication<'a>, Problem> {
-    let at = state.own.find(id).ok_or(Problem::RESULT_UNRECOGNIZED_INVOCATION)?;
-    let operation = table
-        .operation(state.own.places[at].code)
-        .filter(|operation| !matches!(operation.class, 3 | 5))
-        .ok_or(Problem::RESULT_RESPONSE_UNEXPECTED)?;
+    let problems = [Problem::RESULT_UNRECOGNIZED_INVOCATION, Problem::RESULT_RESPONSE_UNEXPECTED];
+    let (at, operation) = answered(table, &state.own, id, Operation::has_results, problems)?;
     if returned.is_some_and(|(code, _)| code != Code::Local(operation.code)) {
         return Err(Problem::RESULT_UNRECOGNIZED_INVOCATION);
     }
@@ -127,11 +127,8 @@ fn receive_error<'a>(
     code: Code,
     value: Option<&'a [u8]>,
 ) -> Result<Indication<'a>, Problem> {
-    let at = state.own.find(id).ok_or(Problem::ERROR_UNRECOGNIZED_INVOCATION)?;
-    let operation = table
-        .operation(state.own.places[at].code)
-        .filter(|operation| !matches!(operation.class, 4 | 5))
-        .ok_or(Problem::ERROR_RESPONSE_UNEXPECTED)?;
+    let problems = [Problem::ERROR_UNRECOGNIZED_INVOCATION, Problem::ERROR_RESPONSE_UNEXPECTED];
+    let (at, operation) = answered(table, &state.own, id, Operation::has_errors, problems)?;
     let error = code.local().and_then(|code| table.error(code)).ok_or(Problem::UNRECOGNIZED_ERROR)?;
     if !table.lists_error(&operation, &error) {
         return Err(Problem::UNEXPECTED_ERROR);
@@ -141,6 +138,20 @@ fn receive_error<'a>(
     }
     state.own.retire(at);
     Ok(Indication::Error { id, code: error.code, value, operation: operation.code })
+}
+
+/// The place and the operation of the record that an answer is to: refused if there is no record, then by its class.
+#[inline(always)]
+fn answered<E>(
+    table: &Table,
+    side: &Side,
+    id: i32,
+    allowed: fn(&Operation) -> bool,
+    [no_record, by_class]: [E; 2],
+) -> Result<(usize, Operation), E> {
+    let at = side.find(id).ok_or(no_record)?;
+    let operation = table.operation(side.places[at].code).filter(allowed).ok_or(by_class)?;
+    Ok((at, operation))
 }
 
 fn receive_reject<'a>(state: &mut State, id: Option<i32>, problem: Problem) -> Indication<'a> {
@@ -160,7 +171,7 @@ pub fn request_invoke(
     (id, linked, code): (i32, Option<i32>, i32),
     value: &[u8],
     output: &mut [u8],
-) -> Result<usize, Refusal> {
+) -> Sent {
     let table = open(table, state)?;
     let operation = table.operation(code).ok_or(Refusal::UnknownOperation)?;
     if state.own.find(id).is_some() {
@@ -189,61 +200,32 @@ pub fn request_invoke(
 }
 
 /// Answers a peer's invocation with a result, or with an absent result if the value is empty.
-pub fn request_result(
-    table: &[u8],
-    state: &mut State,
-    id: i32,
-    value: &[u8],
-    output: &mut [u8],
-) -> Result<usize, Refusal> {
+pub fn request_result(table: &[u8], state: &mut State, id: i32, value: &[u8], output: &mut [u8]) -> Sent {
     let table = open(table, state)?;
-    let at = state.peer.find(id).ok_or(Refusal::NoSuchRecord)?;
-    let operation = table
-        .operation(state.peer.places[at].code)
-        .filter(|operation| !matches!(operation.class, 3 | 5))
-        .ok_or(Refusal::ClassForbids)?;
+    let refusals = [Refusal::NoSuchRecord, Refusal::ClassForbids];
+    let (at, operation) = answered(&table, &state.peer, id, Operation::has_results, refusals)?;
     let levels = value_levels(value, operation.result)?;
-    let written = write(Outgoing::Result { id, code: operation.code, value }, levels, output)?;
-    state.peer.retire(at);
-    Ok(written)
+    answer(state, at, Outgoing::Result { id, code: operation.code, value }, levels, output)
 }
 
 /// Answers a peer's invocation with an error.
-pub fn request_error(
-    table: &[u8],
-    state: &mut State,
-    (id, code): (i32, i32),
-    value: &[u8],
-    output: &mut [u8],
-) -> Result<usize, Refusal> {
+pub fn request_error(table: &[u8], state: &mut State, (id, code): (i32, i32), value: &[u8], output: &mut [u8]) -> Sent {
     let table = open(table, state)?;
-    let at = state.peer.find(id).ok_or(Refusal::NoSuchRecord)?;
-    let operation = table
-        .operation(state.peer.places[at].code)
-        .filter(|operation| !matches!(operation.class, 4 | 5))
-        .ok_or(Refusal::ClassForbids)?;
+    let refusals = [Refusal::NoSuchRecord, Refusal::ClassForbids];
+    let (at, operation) = answered(&table, &state.peer, id, Operation::has_errors, refusals)?;
     let error = table.error(code).filter(|error| table.lists_error(&operation, error)).ok_or(Refusal::UnlistedError)?;
     let levels = value_levels(value, error.parameter)?;
-    let written = write(Outgoing::Error { id, code, value }, levels, output)?;
-    state.peer.retire(at);
-    Ok(written)
+    answer(state, at, Outgoing::Error { id, code, value }, levels, output)
 }
 
 /// Rejects a peer's invocation with invoke problem 2, 3 or 4.
-pub fn request_reject(
-    table: &[u8],
-    state: &mut State,
-    (id, problem): (i32, u8),
-    output: &mut [u8],
-) -> Result<usize, Refusal> {
+pub fn request_reject(table: &[u8], state: &mut State, (id, problem): (i32, u8), output: &mut [u8]) -> Sent {
     open(table, state)?;
     if !matches!(problem, 2..=4) {
         return Err(Refusal::NoUserProblem);
     }
     let at = state.peer.find(id).ok_or(Refusal::NoSuchRecord)?;
-    let written = write(Outgoing::Reject { id: Some(id), problem: Problem::Invoke(problem) }, 0, output)?;
-    state.peer.retire(at);
-    Ok(written)
+    answer(state, at, Outgoing::Reject { id: Some(id), problem: Problem::Invoke(problem) }, 0, output)
 }
 
 /// Retires an own record, or a peer record whose class is neither 1 nor 2.
@@ -276,8 +258,16 @@ fn value_levels(value: &[u8], rule: Rule) -> Result<usize, Refusal> {
     }
 }
 
+/// Writes the answer to the peer record at this place and retires it; 15, then 2.
+#[inline(always)]
+fn answer(state: &mut State, at: usize, apdu: Outgoing<'_>, levels: usize, output: &mut [u8]) -> Sent {
+    let written = write(apdu, levels, output)?;
+    state.peer.retire(at);
+    Ok(written)
+}
+
 /// Writes an APDU whose value has so many levels; 15, then 2.
-fn write(apdu: Outgoing<'_>, levels: usize, output: &mut [u8]) -> Result<usize, Refusal> {
+fn write(apdu: Outgoing<'_>, levels: usize, output: &mut [u8]) -> Sent {
     let octets = apdu.octets();
     if octets > State::OCTETS || apdu.levels(levels) > State::LEVELS {
         return Err(Refusal::ApduTooLarge);

@@ -1,7 +1,8 @@
 //! Scripts from a seed: episodes of calls that fit the state reached, with faults, limits and damage among them.
 //! The calls themselves are made in `requests`, `arrivals`, `limits` and `oddities`.
 
-use crate::drive::{Answer, Drive, Step};
+use crate::answer::Answer;
+use crate::drive::{Drive, Step};
 use crate::frame::{self, Frame};
 use crate::model::Model;
 use crate::random::Random;
@@ -155,7 +156,7 @@ impl<'w> Generator<'w> {
         match self.random.below(10) {
             0 => {
                 let model = self.model.extended(&mut self.random);
-                if model.error_pairs.len() <= 256 && model.child_pairs.len() <= 256 && model.operations.len() <= 64 {
+                if model.is_valid() {
                     self.set_model(model);
                 }
             }
@@ -225,12 +226,7 @@ pub(crate) fn fill(
 
 /// An id that no live record of the side has.
 pub(crate) fn free_id(random: &mut Random, side: &Side) -> i32 {
-    loop {
-        let id = random.number();
-        if side.find(id).is_none() {
-            return id;
-        }
-    }
+    random.number_unless(|id| side.find(id).is_some())
 }
 
 /// A live record of the side, if there is one.

@@ -60,7 +60,7 @@ impl Generator<'_> {
         let apdu = if self.random.percent(50) {
             let around = wrap(&vec![0; 4000]).len() - 4000;
             let octets = self.random.between(4095, 4097) - around;
-            wrap(&values::sized(0x30, octets).unwrap_or_default())
+            wrap(&values::sized(octets))
         } else {
             let around = if place == Place::Result { 2 } else { 1 };
             let levels = self.random.between(15, 17) - around;
@@ -97,8 +97,8 @@ impl Generator<'_> {
         }
         let around_levels = if place == Place::Result { 2 } else { 1 };
         self.send(place, plain, |random, around| match random.below(20) {
-            0..=8 => values::sized(0x30, random.between(4095, 4097) - around).unwrap_or_default(),
-            9 => values::sized(0x30, random.between(4097, 6000)).unwrap_or_default(),
+            0..=8 => values::sized(random.between(4095, 4097) - around),
+            9 => values::sized(random.between(4097, 6000)),
             10..=17 => values::deep(0x30, random.between(15, 17) - around_levels, random.percent(50)),
             _ => values::deep(0x30, random.between(16, 17), random.percent(50)),
         });

@@ -1,19 +1,28 @@
 //! The command line.
 
-use std::io::{self, BufReader, BufWriter, Write};
+use std::io::{self, BufReader, Write};
 use std::ops::RangeInclusive;
 use std::process::ExitCode;
 
 use second::coverage::{self, Coverage};
-use second::{compare, drive, ends, generate};
+use second::drive::{self, Drive};
+use second::{compare, ends, examples, generate};
 
-const USAGE: &str = "second play                         play a script from standard input (also without arguments)
-second repeat COUNT                 play it, but make each call COUNT times from the state as it was, to measure it
-second generate SEED COUNT          write a script of COUNT calls
-second coverage                     show what the generated scripts reach; fails if a row is too rare
-second compare PROGRAM SEEDS COUNT  play scripts of COUNT calls here and on PROGRAM, started without arguments;
-                                    SEEDS is how many seeds, or FROM..TO; fails at the first difference
-second ends SEED COUNT              run a kiosk and a controller for COUNT calls and check demand 3 at each
+const USAGE: &str = "second play [places]         play a script from standard input; the word play may be left out
+second repeat COUNT          play it, but make each call COUNT times from the state as it was, to measure it
+second generate SEED COUNT   write a script of COUNT calls
+second coverage              show what the generated scripts reach; fails if a row is too rare
+second examples PROGRAM [places]
+                             play document 01's examples P1 to P12 on PROGRAM; fails if an answer differs
+second compare PROGRAM SEEDS COUNT [places]
+                             play scripts of COUNT calls here and on PROGRAM; SEEDS is how many seeds, or FROM..TO;
+                             fails at the first difference
+second ends [PROGRAM] SEED COUNT
+                             run a kiosk and a controller, both by PROGRAM if there is one, for COUNT calls;
+                             fails if demand 3 does not hold at each
+
+With places each line ends with the place of the indicated value in the received octets; PROGRAM is then started with
+the argument places, else without arguments.
 ";
 
 fn main() -> ExitCode {
@@ -31,31 +40,40 @@ fn main() -> ExitCode {
 
 /// Runs a command; false if what it checks does not hold.
 fn run(arguments: &[&str]) -> Result<bool, String> {
-    match *arguments {
-        [] | ["play"] => play(1),
-        ["repeat", count] => play(number(count, "COUNT")?),
-        ["generate", seed, count] => write(&generate::script(number(seed, "SEED")?, number(count, "COUNT")? as usize)),
-        ["coverage"] => {
-            let (report, enough) = Coverage::of(coverage::SEEDS, coverage::CALLS).report();
-            write(report.as_bytes())?;
-            Ok(enough)
+    let (words, places) = match arguments.split_last() {
+        Some((&"places", words)) => (words, true),
+        _ => (arguments, false),
+    };
+    match (words, places) {
+        ([] | ["play"], _) => play(Drive::default().showing_places(places)),
+        (["repeat", count], false) => play(Drive::default().repeating(number(count, "COUNT", 1)?)),
+        (["generate", seed, count], false) => {
+            write(&generate::script(number(seed, "SEED", 0)?, number(count, "COUNT", 0)? as usize))
         }
-        ["compare", program, seeds, count] => {
-            compare::compare(program, range(seeds)?, number(count, "COUNT")? as usize)
+        (["coverage"], false) => show(Coverage::of(coverage::SEEDS, coverage::CALLS).report()),
+        (["examples", program], _) => show(examples::run(program, places)?),
+        (["compare", program, seeds, count], _) => {
+            compare::compare(program, range(seeds)?, number(count, "COUNT", 1)? as usize, places)
         }
-        ["ends", seed, count] => {
-            let (report, right) = ends::run(number(seed, "SEED")?, number(count, "COUNT")?);
-            write(report.as_bytes())?;
-            Ok(right)
-        }
-        [command, ..] => Err(format!("'{command}' with {} more arguments is no command", arguments.len() - 1)),
+        (["ends", seed, count], false) => two_ends(None, seed, count),
+        (["ends", program, seed, count], false) => two_ends(Some(program), seed, count),
+        _ => Err(format!("'{}' with {} more arguments is no command", arguments[0], arguments.len() - 1)),
     }
 }
 
-fn play(times: u64) -> Result<bool, String> {
-    let lines = BufWriter::with_capacity(1 << 16, io::stdout().lock());
+fn play(drive: Drive) -> Result<bool, String> {
     let script = BufReader::with_capacity(1 << 16, io::stdin().lock());
-    drive::play(script, lines, times).map(|()| true).map_err(|error| format!("playing stopped: {error}"))
+    let played = drive::play(script, io::stdout().lock(), drive);
+    played.map(|()| true).map_err(|error| format!("playing stopped: {error}"))
+}
+
+fn two_ends(program: Option<&str>, seed: &str, count: &str) -> Result<bool, String> {
+    show(ends::run(program, number(seed, "SEED", 0)?, number(count, "COUNT", 1)?)?)
+}
+
+/// Writes a report and hands on whether it is right.
+fn show((report, right): (String, bool)) -> Result<bool, String> {
+    write(report.as_bytes()).map(|_| right)
 }
 
 fn write(octets: &[u8]) -> Result<bool, String> {
@@ -63,14 +81,18 @@ fn write(octets: &[u8]) -> Result<bool, String> {
     written.map(|()| true).map_err(|error| format!("standard output: {error}"))
 }
 
-fn number(text: &str, name: &str) -> Result<u64, String> {
-    text.parse().map_err(|_| format!("{name} is '{text}', but must be a number from 0 up"))
+fn number(text: &str, name: &str, least: u64) -> Result<u64, String> {
+    let number = text.parse().ok().filter(|number| *number >= least);
+    number.ok_or_else(|| format!("{name} is '{text}', but must be a number from {least} up"))
 }
 
 /// `N` is 1 to N, `FROM..TO` is that range, both ends included.
 fn range(text: &str) -> Result<RangeInclusive<u64>, String> {
     match text.split_once("..") {
-        Some((from, to)) => Ok(number(from, "FROM")?..=number(to, "TO")?),
-        None => Ok(1..=number(text, "SEEDS")?),
+        Some((from, to)) => {
+            let from = number(from, "FROM", 0)?;
+            Ok(from..=number(to, "TO", from)?)
+        }
+        None => Ok(1..=number(text, "SEEDS", 1)?),
     }
 }

@@ -81,6 +81,10 @@ impl Model {
         octets
     }
 
+    pub fn is_valid(&self) -> bool {
+        Table::new(&self.octets()).is_some()
+    }
+
     /// A valid table, mostly small, now and then a full one.
     pub fn random(random: &mut Random) -> Model {
         let most = match random.below(100) {
@@ -120,7 +124,7 @@ impl Model {
         Model { operations, errors, ..Model::default() }
     }
 
-    /// A valid table that extends this one, with more of everything.
+    /// A table that extends this one, with more of everything; not valid if a part is then too long.
     pub fn extended(&self, random: &mut Random) -> Model {
         let mut model = self.clone();
         for _ in 0..random.between(1, 4) {

@@ -1,8 +1,7 @@
 //! What a generated call shows: its kind, the limits it touches, and whether a named case did what it is there for.
 
-use crate::answer::{Indication, Problem, Refusal};
+use crate::answer::{Answer, Indication, Problem, Refusal};
 use crate::apdu::Outgoing;
-use crate::drive::Answer;
 use crate::frame::{self, Frame};
 use crate::generate::{Group, Seen};
 use crate::octets;

@@ -15,6 +15,12 @@ impl Element<'_> {
     }
 }
 
+/// Where a part stands in the octets that it is a part of, and where it ends.
+pub fn place(octets: &[u8], part: &[u8]) -> (usize, usize) {
+    let at = part.as_ptr().addr() - octets.as_ptr().addr();
+    (at, at + part.len())
+}
+
 /// Splits the first element off; checks the forms of identifier and length, nothing inside.
 #[inline]
 pub fn split(octets: &[u8]) -> Option<(Element<'_>, &[u8])> {
@@ -140,6 +146,7 @@ pub fn length_octets(length: usize) -> usize {
         0..=0x7F => 1,
         0x80..=0xFF => 2,
         0x100..=0xFFFF => 3,
+        0x1_0000..=0xFF_FFFF => 4,
         _ => 5,
     }
 }
@@ -171,12 +178,18 @@ impl<'a> Writer<'a> {
 
     /// Identifier and shortest length; the contents are put after it.
     pub fn header(&mut self, identifier: u8, length: usize) {
-        let long = (length as u32).to_be_bytes();
-        match length_octets(length) {
-            1 => self.put(&[identifier, length as u8]),
-            2 => self.put(&[identifier, 0x81, long[3]]),
-            3 => self.put(&[identifier, 0x82, long[2], long[3]]),
-            _ => self.put(&[identifier, 0x84, long[0], long[1], long[2], long[3]]),
+        self.header_in_form(identifier, length, length_octets(length) - 1);
+    }
+
+    /// Identifier and a length in long form with so many octets, enough for it, or in short form for 0.
+    pub fn header_in_form(&mut self, identifier: u8, length: usize, form: usize) {
+        let octets = (length as u32).to_be_bytes();
+        match form {
+            0 => self.put(&[identifier, octets[3]]),
+            _ => {
+                self.put(&[identifier, 0x80 + form as u8]);
+                self.put(&octets[4 - form..]);
+            }
         }
     }
 

@@ -54,4 +54,14 @@ impl Random {
             _ => (self.draw() as i32) >> (8 * self.below(4)),
         }
     }
+
+    /// A number for which the test does not hold.
+    pub fn number_unless(&mut self, taken: impl Fn(i32) -> bool) -> i32 {
+        loop {
+            let number = self.number();
+            if !taken(number) {
+                return number;
+            }
+        }
+    }
 }

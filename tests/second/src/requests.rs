@@ -144,21 +144,11 @@ impl Generator<'_> {
     }
 
     pub(crate) fn unknown_code(&mut self) -> i32 {
-        loop {
-            let code = self.random.number();
-            if self.model.operation(code).is_none() {
-                return code;
-            }
-        }
+        self.random.number_unless(|code| self.model.operation(code).is_some())
     }
 
     fn unknown_error(&mut self) -> i32 {
-        loop {
-            let code = self.random.number();
-            if !self.model.errors.iter().any(|row| row.code == code) {
-                return code;
-            }
-        }
+        self.random.number_unless(|code| self.model.errors.iter().any(|row| row.code == code))
     }
 
     /// A value for a rule, empty for none; wrong in one of many ways if that is to go wrong.
@@ -170,7 +160,7 @@ impl Generator<'_> {
         }
         match self.random.below(10) {
             0..=1 => Vec::new(),
-            2..=3 => values::value(&mut self.random, [0x02, 0x04, 0x30, 0x80, 0xA0][(kind & 3) as usize]),
+            2..=3 => values::value(&mut self.random, [0x02, 0x04, 0x30, 0x80][(kind & 3) as usize]),
             4 => values::value(&mut self.random, kind ^ [0x20, 0x40, 0x80, 0x01][(kind >> 3 & 3) as usize]),
             5..=6 => {
                 let (name, octets) = cases::MALFORMED[self.random.below(cases::MALFORMED.len())];

@@ -2,7 +2,7 @@
 
 use crate::frame::{self, Frame};
 use crate::octets;
-use crate::state::{Record, Side, State};
+use crate::state::{Side, State};
 use crate::table::{Rule, Table};
 
 pub fn hex(octets: &[u8]) -> String {
@@ -46,8 +46,7 @@ pub fn state(state: &State) -> String {
 
 fn side(name: &str, side: &Side) -> String {
     let mut text = format!("  {name} count {}", side.count);
-    let used = side.places.iter().rposition(|&place| place != Record::default()).map_or(0, |last| last + 1);
-    for (at, record) in side.places[..used.max(side.live().len())].iter().enumerate() {
+    for (at, record) in side.shown().iter().enumerate() {
         let unused = if at < usize::from(side.count) { "" } else { " (behind the count)" };
         text += &format!(", {} is operation {}{unused}", record.id, record.code);
     }

@@ -47,6 +47,12 @@ impl Side {
         &self.places[..usize::from(self.count).min(State::RECORDS)]
     }
 
+    /// Each place below the count, and every place up to the last that is not 0, 0.
+    pub fn shown(&self) -> &[Record] {
+        let used = self.places.iter().rposition(|&place| place != Record::default()).map_or(0, |last| last + 1);
+        &self.places[..used.max(self.live().len())]
+    }
+
     pub fn is_full(&self) -> bool {
         usize::from(self.count) >= State::RECORDS
     }

@@ -39,6 +39,18 @@ pub struct Operation {
     pub result: Rule,
 }
 
+impl Operation {
+    /// Classes 1, 2 and 4 answer results.
+    pub fn has_results(&self) -> bool {
+        !matches!(self.class, 3 | 5)
+    }
+
+    /// Classes 1, 2 and 3 answer errors.
+    pub fn has_errors(&self) -> bool {
+        !matches!(self.class, 4 | 5)
+    }
+}
+
 #[derive(Clone, Copy, Debug, PartialEq, Eq)]
 pub struct ErrorEntry {
     pub index: usize,

@@ -1,27 +1,28 @@
 //! Values to try: well-formed elements of a type, of exact length or depth, and damaged ones.
 
-use crate::octets::length_octets;
+use crate::octets::{integer_octets, length_octets, Writer};
 use crate::random::Random;
 
-/// Appends identifier, length and contents; `form` is how many long-form octets, 0 for the shortest form.
-pub fn put_element(octets: &mut Vec<u8>, identifier: u8, contents: &[u8], form: usize) {
-    octets.push(identifier);
-    let length = (contents.len() as u32).to_be_bytes();
-    let count = if form == 0 { length_octets(contents.len()) - 1 } else { form };
-    match count {
-        0 => octets.push(length[3]),
-        _ => {
-            octets.push(0x80 + count as u8);
-            octets.extend(&length[4 - count..]);
-        }
-    }
+/// Appends identifier, length and contents; `form` is how many long-form octets there are at least.
+fn put_element(octets: &mut Vec<u8>, identifier: u8, contents: &[u8], form: usize) {
+    let mut header = [0; 6];
+    let mut writer = Writer::new(&mut header);
+    writer.header_in_form(identifier, contents.len(), form.max(length_octets(contents.len()) - 1));
+    let written = writer.written();
+    octets.extend(&header[..written]);
     octets.extend(contents);
 }
 
-pub fn element(identifier: u8, contents: &[u8]) -> Vec<u8> {
-    let mut octets = Vec::with_capacity(contents.len() + 4);
-    put_element(&mut octets, identifier, contents, 0);
+/// An element whose length has so many long-form octets, or as many as it needs.
+pub fn element_in_form(identifier: u8, contents: &[u8], form: usize) -> Vec<u8> {
+    let mut octets = Vec::with_capacity(contents.len() + 6);
+    put_element(&mut octets, identifier, contents, form);
     octets
+}
+
+/// An element in shortest form.
+pub fn element(identifier: u8, contents: &[u8]) -> Vec<u8> {
+    element_in_form(identifier, contents, 0)
 }
 
 /// A length form that is mostly the shortest.
@@ -34,8 +35,7 @@ pub fn form(random: &mut Random, length: usize) -> usize {
 
 /// The octets of a number in shortest form.
 pub fn integer_contents(number: i32) -> Vec<u8> {
-    let count = crate::octets::integer_octets(number);
-    number.to_be_bytes()[4 - count..].to_vec()
+    number.to_be_bytes()[4 - integer_octets(number)..].to_vec()
 }
 
 /// A well-formed element with this first octet, if there is one: small and not deep.
@@ -67,20 +67,9 @@ fn put_value(random: &mut Random, octets: &mut Vec<u8>, kind: u8, levels: usize)
     put_element(octets, kind, &contents, form);
 }
 
-/// A well-formed element with this first octet and exactly so many octets (8 or more), if there is one.
-pub fn sized(kind: u8, octets: usize) -> Option<Vec<u8>> {
-    let contents = match kind {
-        0x01 | 0x05 | 0x10 | 0x11 | 0x21 | 0x22 | 0x25 | 0x26 | 0x2A => return None,
-        _ if kind & 0x20 != 0 => long_form(0x04, &vec![0x41; octets - 8]),
-        _ => vec![0x41; octets - 4],
-    };
-    Some(long_form(kind, &contents))
-}
-
-fn long_form(identifier: u8, contents: &[u8]) -> Vec<u8> {
-    let mut octets = Vec::with_capacity(contents.len() + 4);
-    put_element(&mut octets, identifier, contents, 2);
-    octets
+/// A 30 with a 04 inside, so many octets in all, 8 to 65,539.
+pub fn sized(octets: usize) -> Vec<u8> {
+    element_in_form(0x30, &element_in_form(0x04, &vec![0x41; octets - 8], 2), 2)
 }
 
 /// Elements inside elements, so many levels in all; the innermost is primitive or empty.

@@ -1,10 +1,12 @@
 //! Calls and answers in words, so that a case is one line.
 
-use second::answer::Refusal;
-use second::drive::{Answer, Drive, Step};
+use second::drive::{self, Drive};
 use second::frame::{self, Frame};
 use second::model::{ErrorRow, Model, OperationRow};
 use second::state::State;
+
+/// Table T of document 01.
+pub const T: &str = "0001 0010 0001 0018 0001 001E 0000 0022 00000007 02020200 00000001 0000 0000 0000";
 
 /// A state and a call in words with the answer as the drive protocol writes it.
 pub struct Case<'a> {
@@ -24,6 +26,13 @@ pub fn state(own: &[(i32, i32)], peer: &[(i32, i32)]) -> State {
     own.iter().for_each(|&(id, code)| state.own.add(id, code));
     peer.iter().for_each(|&(id, code)| state.peer.add(id, code));
     state
+}
+
+/// The lines of a script.
+pub fn lines(script: &[u8], places: bool) -> String {
+    let mut lines = Vec::new();
+    drive::play(script, &mut lines, Drive::default().showing_places(places)).unwrap();
+    String::from_utf8(lines).unwrap()
 }
 
 /// Operations (code, class, argument, result, flags), errors (code, parameter, optional) and pairs of indexes.
@@ -73,15 +82,14 @@ pub fn play(table: &[u8], state: &State, call: &str) -> String {
         "peer" => (frame.kind, frame.detail) = (frame::FORGET, 1),
         other => panic!("{other} is no call"),
     }
-    let mut drive = Drive::new(table.to_vec(), state.clone());
-    let Step::Called(answer) = drive.step(&frame) else { panic!("{call} is no call") };
-    if let Answer::Refused(refusal) = answer {
+    let (mut drive, mut line) = (Drive::new(table.to_vec(), state.clone()), Vec::new());
+    assert!(drive.play(&frame, &mut line), "{call} is no call");
+    let line = String::from_utf8(line).unwrap().trim_end().to_string();
+    if line.starts_with("refused ") {
         assert_eq!(&drive.state, state, "{call} was refused and changed the records");
-        assert_eq!(answer.written() > 0, matches!(refusal, Refusal::Rejected { .. }), "{call}");
+        assert_eq!(line.starts_with("refused 18 "), !line.ends_with(" out -"), "{call}");
     }
-    let mut line = Vec::new();
-    drive.line(&answer, frame.lent, &mut line);
-    String::from_utf8(line).unwrap().trim_end().to_string()
+    line
 }
 
 /// Checks that each case's line starts with its answer (whole words) and spoils nothing.

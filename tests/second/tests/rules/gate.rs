@@ -2,21 +2,15 @@
 
 use std::process::{Command, Output, Stdio};
 
-use crate::common::{hex, model};
+use crate::common::{hex, lines, model, T};
 use second::compare::{compare, first_difference};
 use second::coverage::{Coverage, CALLS, SEEDS};
 use second::frame::{self, Frame};
 use second::model::extends;
 use second::table::Table;
-use second::{drive, ends, generate};
+use second::{ends, examples, generate};
 
 const PROGRAM: &str = env!("CARGO_BIN_EXE_second");
-
-fn lines(script: &[u8]) -> String {
-    let mut lines = Vec::new();
-    drive::play(script, &mut lines, 1).unwrap();
-    String::from_utf8(lines).unwrap()
-}
 
 fn second(arguments: &[&str]) -> Output {
     Command::new(PROGRAM).args(arguments).stdin(Stdio::null()).output().unwrap()
@@ -30,8 +24,18 @@ fn scripts_reach_every_row() {
 
 #[test]
 fn demand_3_holds() {
-    let (report, right) = ends::run(1, 60_000);
+    let (report, right) = ends::run(None, 1, 60_000).unwrap();
     assert!(right, "{report}");
+}
+
+#[test]
+fn a_program_plays_both_ends_as_the_engine_does() {
+    assert_eq!(ends::run(Some(PROGRAM), 1, 3000), ends::run(None, 1, 3000));
+    for (program, told) in [("true", "true ended before it answered"), ("yes", "no line of the drive protocol: y\n")] {
+        let (report, right) = ends::run(Some(program), 1, 10).unwrap();
+        assert!(!right && report.contains(told), "{report}");
+    }
+    assert!(ends::run(Some("no such program"), 1, 10).is_err_and(|error| error.contains("does not start")));
 }
 
 #[test]
@@ -39,16 +43,23 @@ fn scripts_are_the_same_for_the_same_seed() {
     for calls in [0, 1, 300] {
         let script = generate::script(7, calls);
         assert_eq!(script, generate::script(7, calls));
-        assert_eq!(lines(&script).lines().count(), calls);
+        assert_eq!(lines(&script, false).lines().count(), calls);
     }
     assert_ne!(generate::script(7, 300), generate::script(8, 300));
 }
 
 #[test]
 fn the_program_agrees_with_itself_and_not_with_another() {
-    assert_eq!(compare(PROGRAM, 1..=3, 400), Ok(true));
-    assert_eq!(compare("true", 1..=1, 10), Ok(false));
-    assert!(compare("no such program", 1..=1, 10).is_err_and(|error| error.contains("does not start")));
+    for places in [false, true] {
+        assert_eq!(compare(PROGRAM, 1..=3, 400, places), Ok(true));
+        assert!(examples::run(PROGRAM, places).is_ok_and(|(_, right)| right));
+    }
+    assert_eq!(compare("true", 1..=1, 10, false), Ok(false));
+    assert_eq!(compare("false", 1..=1, 0, false), Ok(false));
+    assert!(
+        examples::run("false", false).is_ok_and(|(report, _)| report.ends_with("false ended with exit status: 1\n"))
+    );
+    assert!(compare("no such program", 1..=1, 10, false).is_err_and(|error| error.contains("does not start")));
     let difference = first_difference(b"one\ntwo\n", b"one\ntow\n").unwrap();
     assert_eq!((difference.call, &difference.here[..], &difference.there[..]), (2, "two", "tow"));
     let missing = first_difference(b"one\ntwo\n", b"one\n").unwrap();
@@ -57,8 +68,7 @@ fn the_program_agrees_with_itself_and_not_with_another() {
 
 #[test]
 fn the_example_of_the_protocol_and_the_ends_of_a_run() {
-    let table = hex("0001 0010 0001 0018 0001 001E 0000 0022 00000007 02020200 00000001 0000 0000 0000");
-    let (value, error) = (hex("020103"), hex("A306020105020101"));
+    let (table, value, error) = (hex(T), hex("020103"), hex("A306020105020101"));
     let mut script = Vec::new();
     let mut append = |kind, lent, id, code, payload: &[u8]| {
         Frame { kind, lent, id, code, payload, ..Frame::default() }.append(&mut script);
@@ -71,12 +81,12 @@ fn the_example_of_the_protocol_and_the_ends_of_a_run() {
     append(frame::FORGET, 0, 5, 0, &[]);
     let wanted = "sent own 0001 00000005:00000007 peer 0000 out a109020105020107020103\n\
                   error 00000005 00000001 none op 00000007 own 0000 peer 0000 out -\n";
-    assert_eq!(lines(&script), wanted);
+    assert_eq!(lines(&script, false), wanted);
     let cut = script.len() - 2 * 18 - 1;
-    assert_eq!(lines(&script[..cut]), wanted[..wanted.find('\n').unwrap() + 1]);
+    assert_eq!(lines(&script[..cut], false), wanted[..wanted.find('\n').unwrap() + 1]);
     let mut untouched = Vec::new();
     Frame { kind: frame::FORGET, ..Frame::default() }.append(&mut untouched);
-    assert_eq!(lines(&untouched), "refused 1 own 0000 peer 0000 out -\n");
+    assert_eq!(lines(&untouched, false), "refused 1 own 0000 peer 0000 out -\n");
 }
 
 #[test]
@@ -96,17 +106,23 @@ fn extension_reads_pairs_by_codes() {
 
 #[test]
 fn the_command_line_says_what_is_wrong() {
-    let cases: [(&[&str], &str); 4] = [
+    let cases: [(&[&str], &str); 8] = [
         (&["dance"], "'dance' with 0 more arguments is no command"),
         (&["generate", "x", "5"], "SEED is 'x', but must be a number from 0 up"),
         (&["ends", "1"], "'ends' with 1 more arguments is no command"),
-        (&["compare", "no such program", "1", "10"], "give the path of a program that needs no arguments"),
+        (&["coverage", "places"], "'coverage' with 1 more arguments is no command"),
+        (&["compare", "true", "0", "10"], "SEEDS is '0', but must be a number from 1 up"),
+        (&["compare", "true", "5..4", "10"], "TO is '4', but must be a number from 5 up"),
+        (&["ends", "true", "1", "0"], "COUNT is '0', but must be a number from 1 up"),
+        (&["compare", "no such program", "1", "10"], "give the path of a program of the drive protocol"),
     ];
     for (arguments, message) in cases {
         let output = second(arguments);
         assert_eq!(output.status.code(), Some(2), "{arguments:?}");
         assert!(String::from_utf8_lossy(&output.stderr).contains(message), "{arguments:?}");
     }
-    assert!(second(&[]).status.success() && second(&["play"]).status.success());
+    for arguments in [&[][..], &["play"], &["places"], &["play", "places"]] {
+        assert!(second(arguments).status.success(), "{arguments:?}");
+    }
     assert_eq!(second(&["generate", "3", "50"]).stdout, generate::script(3, 50));
 }

@@ -1,7 +1,9 @@
 //! The rules of document 01 and their readings as cases, and short runs of the generator's checks.
 
+mod coding;
 mod common;
 mod examples;
 mod gate;
+mod lines;
 mod readings;
 mod rules;

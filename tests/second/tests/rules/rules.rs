@@ -3,7 +3,7 @@
 use crate::common::{hex, model, play, state};
 use crate::readings::table;
 use second::cases;
-use second::octets::{integer, integer_octets, levels, Writer};
+use second::octets::levels;
 use second::state::State;
 use second::table::Table;
 use second::values::{deep, sized};
@@ -66,7 +66,7 @@ fn sixteen_levels() {
 fn four_thousand_and_ninety_six_octets() {
     // Identifier and three length octets, then id and code; a result has a sequence around code and value.
     for (request, around) in [("invoke 5 7", 10), ("result 6 ", 14), ("error 6 4", 10)] {
-        let table = model(&[(7, 2, 0x04, 0x04, 0)], &[(4, 0x04, 0)], &[(0, 0)], &[]).octets();
+        let table = model(&[(7, 2, 0x30, 0x30, 0)], &[(4, 0x30, 0)], &[(0, 0)], &[]).octets();
         let whole = 4096 - around;
         for (lent, octets, answer) in [
             (4096, whole, "sent"),
@@ -74,7 +74,7 @@ fn four_thousand_and_ninety_six_octets() {
             (0, whole + 1, "refused 15"),
             (9000, 5000, "refused 15"),
         ] {
-            let call = format!("@{lent} {request} {}", text(&sized(0x04, octets).unwrap()));
+            let call = format!("@{lent} {request} {}", text(&sized(octets)));
             assert!(play(&table, &state(&[], &[(6, 7)]), &call).starts_with(answer), "{request} {octets}");
         }
     }
@@ -90,23 +90,6 @@ fn thirty_two_records() {
     assert!(play(&[], &full, "receive A1 09 02 01 28 02 01 02 02 01 00").starts_with("refused 18 81 03 "));
     assert!(play(&[], &full, "receive A1 06 02 01 28 02 01 06").starts_with("invoke "));
     assert!(play(&[], &full[1..], "receive A1 09 02 01 28 02 01 02 02 01 00").starts_with("invoke "));
-}
-
-#[test]
-fn integers() {
-    let numbers =
-        [0, 1, -1, 127, 128, -128, -129, 32_767, 32_768, -32_768, -32_769, 8_388_607, 8_388_608, i32::MAX, i32::MIN];
-    for number in numbers {
-        let mut output = [0; 6];
-        let mut writer = Writer::new(&mut output);
-        writer.integer(0x02, number);
-        assert_eq!(writer.written(), 2 + integer_octets(number));
-        let written = writer.written();
-        assert_eq!(levels(&output[..written], 16), Some(1), "{number}");
-        assert_eq!(integer(&output[2..written]), Some(number));
-    }
-    assert_eq!(integer(&[0x01, 0, 0, 0, 0]), None);
-    assert_eq!(integer(&[]), None);
 }
 
 #[test]

@@ -1,0 +1,125 @@
+//! One end of an association, played by the engine or by another program, and what each of its lines must keep to.
+
+use crate::answer::{Answer, Indication, Refusal, REFUSALS};
+use crate::apdu::{self, Apdu, Code, Invoke};
+use crate::drive::Drive;
+use crate::frame::{self, Frame};
+use crate::line::{Line, Room};
+use crate::state::State;
+
+/// Who plays an end.
+pub trait Player {
+    /// Takes a frame and appends the line of a call.
+    fn play(&mut self, frame: &Frame<'_>, line: &mut Vec<u8>) -> Result<(), String>;
+}
+
+impl Player for Drive {
+    fn play(&mut self, frame: &Frame<'_>, line: &mut Vec<u8>) -> Result<(), String> {
+        Drive::play(self, frame, line);
+        Ok(())
+    }
+}
+
+/// An end that is played, what its last line showed, and the records before.
+pub struct Played {
+    player: Box<dyn Player>,
+    text: Vec<u8>,
+    room: Room,
+    before: State,
+}
+
+impl Played {
+    /// An end in the fresh state with this table.
+    pub fn new(mut player: Box<dyn Player>, table: &[u8]) -> Result<Self, String> {
+        let frame = Frame { kind: frame::TABLE, payload: table, ..Frame::default() };
+        player.play(&frame, &mut Vec::new())?;
+        Ok(Played { player, text: Vec::new(), room: Room::default(), before: State::fresh() })
+    }
+
+    /// The records as the last line showed them.
+    pub fn state(&self) -> &State {
+        self.room.state()
+    }
+
+    /// The records before the last call.
+    pub fn before(&self) -> &State {
+        &self.before
+    }
+
+    /// Makes a call: what its line shows, or what is wrong with the line.
+    pub fn call(&mut self, frame: &Frame<'_>) -> Result<Line<'_>, String> {
+        self.before.clone_from(self.room.state());
+        self.text.clear();
+        self.player.play(frame, &mut self.text)?;
+        let text = String::from_utf8_lossy(&self.text);
+        let line = text.strip_suffix('\n').and_then(|text| Line::read(text, &mut self.room));
+        let line = line.ok_or_else(|| format!("no line of the drive protocol: {}", text.trim_end()))?;
+        match broken_rule(frame, &self.before, &line) {
+            Some(rule) => Err(format!("{rule}: {}", text.trim_end())),
+            None => Ok(line),
+        }
+    }
+}
+
+/// What the line breaks of document 01's rules for every call, whatever the call asks.
+fn broken_rule(frame: &Frame<'_>, before: &State, line: &Line<'_>) -> Option<&'static str> {
+    let rules = [
+        (answers(frame.kind, &line.answer), "the call has no such answer"),
+        (shows(frame.payload, &line.answer), "the indication does not show the APDU's fields"),
+        (wrote(frame.kind, line), "other octets were written than the answer says"),
+        (line.written.len() <= usize::from(frame.lent), "more octets were written than lent"),
+        (!line.spoiled, "an octet behind the written ones was changed"),
+        (line.answer.is_accepted() || line.state == before, "a refused call changed the records"),
+        (line.state.is_sound(), "the records are not sound"),
+    ];
+    rules.into_iter().find(|(kept, _)| !kept).map(|(_, rule)| rule)
+}
+
+/// Whether a call of this kind can have the answer.
+fn answers(kind: u8, answer: &Answer<'_>) -> bool {
+    match answer {
+        Answer::Indicated(_) => kind == frame::RECEIVE,
+        Answer::Sent { .. } => (frame::INVOKE..=frame::REJECT).contains(&kind),
+        Answer::Forgotten => kind == frame::FORGET,
+        Answer::Refused(refusal) => REFUSALS[usize::from(kind - frame::RECEIVE)].1.contains(&refusal.number()),
+    }
+}
+
+/// Whether an indication shows the kind and every field of the received APDU.
+fn shows(octets: &[u8], answer: &Answer<'_>) -> bool {
+    match *answer {
+        Answer::Indicated(indication) => apdu::read(octets).is_ok_and(|apdu| apdu == shown(indication)),
+        _ => true,
+    }
+}
+
+/// The APDU that an indication shows.
+fn shown(indication: Indication<'_>) -> Apdu<'_> {
+    match indication {
+        Indication::Invoke { id, linked, code, value } => {
+            Apdu::Invoke(Invoke { id, linked, code: Code::Local(code), value })
+        }
+        Indication::Result { id, code, value, .. } => Apdu::Result { id, returned: Some((Code::Local(code), value)) },
+        Indication::AbsentResult { id, .. } => Apdu::Result { id, returned: None },
+        Indication::Error { id, code, value, .. } => Apdu::Error { id, code: Code::Local(code), value },
+        Indication::UserReject { id, problem } => Apdu::Reject { id: Some(id), problem },
+        Indication::ProviderReject { id, problem } => Apdu::Reject { id, problem },
+    }
+}
+
+/// Whether a request wrote its APDU, 18 its Reject, and everything else nothing.
+fn wrote(kind: u8, line: &Line<'_>) -> bool {
+    match (line.answer, apdu::read(line.written)) {
+        (Answer::Sent { .. }, Ok(apdu)) => match apdu {
+            Apdu::Invoke(_) => kind == frame::INVOKE,
+            Apdu::Result { .. } => kind == frame::RESULT,
+            Apdu::Error { .. } => kind == frame::ERROR,
+            Apdu::Reject { .. } => kind == frame::REJECT,
+        },
+        (Answer::Refused(Refusal::Rejected { problem, .. }), Ok(Apdu::Reject { problem: written, .. })) => {
+            problem == written
+        }
+        (Answer::Sent { .. } | Answer::Refused(Refusal::Rejected { .. }), _) => false,
+        _ => line.written.is_empty(),
+    }
+}

@@ -1,0 +1,138 @@
+//! Lines read back, lines that the protocol does not have, and lines that break a rule of every call.
+
+use crate::common::{hex, lines, T};
+use second::drive::Drive;
+use second::frame::{self, Frame};
+use second::generate;
+use second::line::{Line, Room};
+use second::octets::place;
+use second::player::{Played, Player};
+
+#[test]
+fn lines_are_read_back() {
+    let mut room = Room::default();
+    for line in lines(&generate::script(5, 2000), false).lines() {
+        assert!(Line::read(line, &mut room).is_some(), "{line}");
+    }
+}
+
+#[test]
+fn other_lines_are_none() {
+    let places = " 00000001:00000001".repeat(33);
+    let others = [
+        "",
+        "sent",
+        "sent own 0000 peer 0000 out",
+        "sent own 0000 peer 0000 out ",
+        "sent own 0000 peer 0000 out a",
+        "sent own 0000 peer 0000 out A1",
+        "sent own 0000 peer 0000 out a1 ",
+        "sent own 0000 peer 0000 out - spoilt",
+        "sent own 0000 peer 0000 out - value none",
+        "sent  own 0000 peer 0000 out -",
+        "sent own 0 peer 0000 out -",
+        "sent own 0001 peer 0000 out -",
+        "sent own 0000 00000000:00000000 peer 0000 out -",
+        "sent own 0001 5:7 peer 0000 out -",
+        "sent peer 0000 own 0000 out -",
+        "refused 0 own 0000 peer 0000 out -",
+        "refused 18 own 0000 peer 0000 out -",
+        "refused 20 own 0000 peer 0000 out -",
+        "refused 2 80 02 own 0000 peer 0000 out -",
+        "refused 18 80 03 own 0000 peer 0000 out a4050500800103",
+        "invoke 00000005 none 00000007 own 0000 peer 0000 out -",
+        "invoke 00000005 none 00000007  own 0000 peer 0000 out -",
+        "result 00000005 none 020100 op 00000007 own 0000 peer 0000 out -",
+        "result 00000005 00000007 none op 00000007 own 0000 peer 0000 out -",
+        "result 00000005 00000007 020100 own 0000 peer 0000 out -",
+        "error 00000005 none none op 00000007 own 0000 peer 0000 out -",
+        "reject-u none 81 00 own 0000 peer 0000 out -",
+        "reject-u 00000005 80 00 own 0000 peer 0000 out -",
+        "reject-p 00000005 81 00 own 0000 peer 0000 out -",
+        &format!("forgotten own 0021{places} peer 0000 out -"),
+    ];
+    for line in others {
+        assert!(Line::read(line, &mut Room::default()).is_none(), "{line}");
+    }
+}
+
+#[test]
+fn places_are_counted_in_the_received_octets() {
+    let octets = [0; 13];
+    assert_eq!(place(&octets, &octets), (0, 13));
+    assert_eq!(place(&octets, &octets[10..]), (10, 13));
+    assert_eq!(place(&octets, &octets[4..6]), (4, 6));
+}
+
+/// The engine, but with a text of its lines replaced.
+struct Changed {
+    drive: Drive,
+    old: &'static str,
+    new: &'static str,
+}
+
+impl Player for Changed {
+    fn play(&mut self, frame: &Frame<'_>, line: &mut Vec<u8>) -> Result<(), String> {
+        Player::play(&mut self.drive, frame, line)?;
+        *line = String::from_utf8_lossy(line).replacen(self.old, self.new, 1).into_bytes();
+        Ok(())
+    }
+}
+
+/// P1's invoke and then another call, with a text of the lines replaced.
+fn after_invoke(old: &'static str, new: &'static str, second: Frame<'_>) -> Result<(), String> {
+    let mut end = Played::new(Box::new(Changed { drive: Drive::default(), old, new }), &hex(T))?;
+    let value = hex("02 01 03");
+    end.call(&Frame { kind: frame::INVOKE, lent: 64, id: 5, code: 7, payload: &value, ..Frame::default() })?;
+    end.call(&second)?;
+    Ok(())
+}
+
+#[test]
+fn rules_of_every_call() {
+    let (p2, p4) = (hex("A2 0B 02 01 05 30 06 02 01 07 02 01 00"), hex("A2 03 02 01 05"));
+    let receive = |payload, lent| Frame { kind: frame::RECEIVE, lent, payload, ..Frame::default() };
+    let (result, refused, short) = (receive(&p2, 11), receive(&p4, 11), receive(&p4, 7));
+    let forget = Frame { kind: frame::FORGET, id: 6, ..Frame::default() };
+    for second in [result, refused, short, forget] {
+        assert_eq!(after_invoke("", "", second), Ok(()));
+    }
+    let fields = "the indication does not show";
+    let octets = "other octets were written";
+    let records = "a refused call changed the records";
+    for (old, new, second, rule) in [
+        ("sent own", "forgotten own", refused, "the call has no such answer"),
+        ("refused 18 82 02", "sent", refused, "the call has no such answer"),
+        ("refused 11", "refused 10", forget, "the call has no such answer"),
+        ("020100 op", "020101 op", result, fields),
+        ("00000007 020100 op", "none none op", result, fields),
+        ("result 00000005 00000007 020100", "error 00000005 00000007 020100", result, fields),
+        ("out a109020105020107020103", "out -", refused, octets),
+        ("out a109020105020107020103", "out a306020105020101", refused, octets),
+        ("out a109020105020107020103", "out a10902010502010702010300", refused, octets),
+        ("refused 18 82 02", "refused 18 82 01", refused, octets),
+        ("out a406020105820102", "out -", refused, octets),
+        ("0000 out -", "0000 out a406020105820102", forget, octets),
+        ("0000 out -", "0000 out a406020105820102", result, octets),
+        ("refused 2 own", "refused 18 82 02 own", short, octets),
+        ("out a406020105820102", "out a406020105820102 spoiled", refused, "an octet behind"),
+        ("0000 out -", "0000 out - spoiled", forget, "an octet behind"),
+        ("0000 out a406", "0001 00000005:00000007 out a406", refused, records),
+        ("refused 11 own 0001 00000005:00000007", "refused 11 own 0000", forget, records),
+        ("sent own 0001 00000005:00000007", "sent own 0000 00000005:00000007", refused, "the records are not sound"),
+        ("sent own", "sent own own", refused, "no line of the drive protocol"),
+        ("\n", "", refused, "no line of the drive protocol"),
+    ] {
+        let told = after_invoke(old, new, second).err().unwrap_or_default();
+        assert!(told.starts_with(rule), "{new}: {told}");
+    }
+}
+
+#[test]
+fn no_more_is_written_than_lent() {
+    let octets = hex("A2 03 02 01 05");
+    let short = Frame { kind: frame::RECEIVE, lent: 7, payload: &octets, ..Frame::default() };
+    let [old, new] = ["refused 2 own 0000 peer 0000 out -", "refused 18 82 00 own 0000 peer 0000 out a406020105820100"];
+    let mut end = Played::new(Box::new(Changed { drive: Drive::default(), old, new }), &hex(T)).unwrap();
+    assert!(end.call(&short).is_err_and(|told| told.starts_with("more octets were written than lent")));
+}
