@@ -12,7 +12,7 @@ use Rattle.base.proofs.Tests.{cond-true, cond-false}
 use Rattle.base.proofs.Lists.{rest}
 use Rattle.ber.specs.declared.header.Header.the-variants.{At, NoHeader}
 use Rattle.ber.specs.declared.element.Checked.{Checked}
-use Rattle.ber.specs.declared.element.Checked.the-variants.{Good, Fault}
+use Rattle.ber.specs.declared.element.Checked.the-variants.{Good, NoElement}
 use Rattle.ber.specs.Header.{headerOf}
 use Rattle.ber.specs.Rule.{contentRule}
 use Rattle.ber.specs.Element.{part, constructed, makesElement, elementWith, elementOf, contentsOf, fills, wellFormed}
@@ -21,7 +21,7 @@ use Rattle.ber.proofs.ElementLaws.{good-size, fault-size, contents-cons
 
 -- ---- no level is left
 
-pub element-no-level : (d : ℕ) (s : List ℕ) → d ≡ 0 → Fault ≡ elementOf d s
+pub element-no-level : (d : ℕ) (s : List ℕ) → d ≡ 0 → NoElement ≡ elementOf d s
 unfolding elementOf
 element-no-level zero s e = refl
 element-no-level (suc d) s e = absurd (omega arith)
@@ -51,19 +51,19 @@ element-level zero s n = absurd (n refl)
 element-level (suc d) s n = let e : suc d - 1 ≡ d = omega arith in ap (λ (k : ℕ). elementWith (contentsOf k) s (headerOf s)) e
 
 module _ (d : ℕ) (s : List ℕ) (n : d ≡ 0 → ⊥) where
-  pub element-no-header : headerOf s ≡ NoHeader → Fault ≡ elementOf d s
+  pub element-no-header : headerOf s ≡ NoHeader → NoElement ≡ elementOf d s
   unfolding elementWith
   element-no-header w = ap (elementWith (contentsOf (d - 1)) s) (sym w) ∙ element-level d s n
 
   module _ (id a e : ℕ) (w : headerOf s ≡ At id a e) where
-    element-at : cond (makesElement (contentsOf (d - 1)) id (part s a e)) (Good e) Fault ≡ elementOf d s
+    element-at : cond (makesElement (contentsOf (d - 1)) id (part s a e)) (Good e) NoElement ≡ elementOf d s
     unfolding elementWith
     element-at = ap (elementWith (contentsOf (d - 1)) s) (sym w) ∙ element-level d s n
 
     pub element-good : makesElement (contentsOf (d - 1)) id (part s a e) ≡ true → Good e ≡ elementOf d s
     element-good r = cond-true _ _ r ∙ element-at
 
-    pub element-fault : makesElement (contentsOf (d - 1)) id (part s a e) ≡ false → Fault ≡ elementOf d s
+    pub element-fault : makesElement (contentsOf (d - 1)) id (part s a e) ≡ false → NoElement ≡ elementOf d s
     element-fault r = cond-false _ _ r ∙ element-at
 
 -- ---- contents, from the front: what the loop goes by, with the octets from `at` on left
@@ -87,7 +87,7 @@ module _ (d : ℕ) (s : List ℕ) (at : ℕ) (same : contentsOf d s ≡ contents
     here : elementOf d (part s at (length s)) ≡ elementOf d (drop at s)
     here = ap (elementOf d) (rest s at)
 
-    rest-wrong : Fault ≡ elementOf d (part s at (length s)) → false ≡ contentsOf d s
+    rest-wrong : NoElement ≡ elementOf d (part s at (length s)) → false ≡ contentsOf d s
     rest-wrong q = sym (same ∙ contents-fault d (drop at s) (omega (arith, length-drop at s)) (sym (q ∙ here)))
 
     pub rest-no-header : headerOf (part s at (length s)) ≡ NoHeader → false ≡ contentsOf d s
@@ -105,7 +105,7 @@ module _ (d : ℕ) (s : List ℕ) (at : ℕ) (same : contentsOf d s ≡ contents
 -- ---- the whole input
 
 module _ (d : ℕ) (s : List ℕ) (r : Checked) (q : r ≡ elementOf d s) where
-  pub well-formed-fault : r ≡ Fault → false ≡ wellFormed d s
+  pub well-formed-fault : r ≡ NoElement → false ≡ wellFormed d s
   unfolding wellFormed fills
   well-formed-fault w = sym (ap (fills (length s)) (fault-size d s (sym q ∙ w)))
 
@@ -115,11 +115,11 @@ module _ (d : ℕ) (s : List ℕ) (r : Checked) (q : r ≡ elementOf d s) where
 
 -- s is one element: by its header
 pub well-formed-headless : (d : ℕ) (s : List ℕ) → (d ≡ 0 → ⊥) → headerOf s ≡ NoHeader → wellFormed d s ≡ false
-well-formed-headless d s n w = sym (well-formed-fault d s Fault (element-no-header d s n w) refl)
+well-formed-headless d s n w = sym (well-formed-fault d s NoElement (element-no-header d s n w) refl)
 
 pub well-formed-at : (d : ℕ) (s : List ℕ) → (d ≡ 0 → ⊥) → (id a e : ℕ) → headerOf s ≡ At id a e → wellFormed d s ≡ (eqb e (length s) && makesElement (contentsOf (d - 1)) id (part s a e))
 well-formed-at d s n id a e w = go (makesElement (contentsOf (d - 1)) id (part s a e)) refl
   where
     go : (b : Bool) → makesElement (contentsOf (d - 1)) id (part s a e) ≡ b → wellFormed d s ≡ (eqb e (length s) && b)
     go true m = sym (and-true (eqb e (length s)) ∙ well-formed-by d s (Good e) (element-good d s n id a e w m) e refl)
-    go false m = sym (and-false (eqb e (length s)) ∙ well-formed-fault d s Fault (element-fault d s n id a e w m) refl)
+    go false m = sym (and-false (eqb e (length s)) ∙ well-formed-fault d s NoElement (element-fault d s n id a e w m) refl)

@@ -1,6 +1,6 @@
 -- Laws of elements and contents for callers: over `size` and `contentsOf`, so that a richer answer of the check leaves them as they are.
 use mathlib.Core.Path.{_≡_, refl, sym, subst, ap, _∙_}
-use mathlib.Core.Bool.{Bool, true, false, cond, _&&_}
+use mathlib.Core.Bool.{Bool, true, false, cond}
 use mathlib.Core.List.{List, [], _∷_}
 use mathlib.Core.Option.{Option, some, none}
 use Prim.Native.Nat.{ℕ, zero, suc, _-_, _≤_}
@@ -11,7 +11,7 @@ use Rattle.base.proofs.Tests.{cond-elim, cond-true, and-true, and-left, and-rig
 use Rattle.ber.specs.declared.header.Header.{Header}
 use Rattle.ber.specs.declared.header.Header.the-variants.{At, NoHeader}
 use Rattle.ber.specs.declared.element.Checked.{Checked}
-use Rattle.ber.specs.declared.element.Checked.the-variants.{Good, Fault}
+use Rattle.ber.specs.declared.element.Checked.the-variants.{Good, NoElement}
 use Rattle.ber.specs.Header.{headerOf}
 use Rattle.ber.specs.Rule.{contentRule}
 use Rattle.ber.specs.Element.{part, constructed, makesElement, restRight, elementsIn, elementWith, elementOf, contentsOf, sizeIn, size, fills, wellFormed}
@@ -23,7 +23,7 @@ pub good-size : (d : ℕ) (s : List ℕ) (n : ℕ) → elementOf d s ≡ Good n 
 unfolding size sizeIn
 good-size d s n e = ap sizeIn e
 
-pub fault-size : (d : ℕ) (s : List ℕ) → elementOf d s ≡ Fault → size d s ≡ none
+pub fault-size : (d : ℕ) (s : List ℕ) → elementOf d s ≡ NoElement → size d s ≡ none
 unfolding size sizeIn
 fault-size d s e = ap sizeIn e
 
@@ -33,19 +33,19 @@ size-good d s n q = go (elementOf d s) refl q
   where
     go : (r : Checked) → elementOf d s ≡ r → sizeIn r ≡ some n → elementOf d s ≡ Good n
     go (Good k) e x = cc
-    go Fault e x = cc
+    go NoElement e x = cc
 
 -- ---- an element lies within the octets
 
 abbrev CheckedWithin : ℕ → Checked → Type 0
-CheckedWithin m Fault = Unit
+CheckedWithin m NoElement = Unit
 CheckedWithin m (Good n) = (2 ≤ n) × (n ≤ m)
 
 with-within : (inside : List ℕ → Bool) (s : List ℕ) (h : Header) → Bounded s h → CheckedWithin (length s) (elementWith inside s h)
 unfolding elementWith
 with-within inside s NoHeader b = tt
 with-within inside s (At id a e) b =
-    cond-elim (CheckedWithin (length s)) (makesElement inside id (part s a e)) (Good e) Fault (λ _. omega arith) (λ _. tt)
+    cond-elim (CheckedWithin (length s)) (makesElement inside id (part s a e)) (Good e) NoElement (λ _. omega arith) (λ _. tt)
 
 element-within : (d : ℕ) (s : List ℕ) → CheckedWithin (length s) (elementOf d s)
 unfolding elementOf
@@ -62,7 +62,7 @@ element-bounds d s n p = good-bounds d s n (size-good d s n p)
 
 rest-same : (g h : List ℕ → Bool) (s : List ℕ) (r : Checked) → ((k : ℕ) → r ≡ Good k → g (drop k s) ≡ h (drop k s)) → restRight g s r ≡ restRight h s r
 unfolding restRight
-rest-same g h s Fault e = refl
+rest-same g h s NoElement e = refl
 rest-same g h s (Good k) e = e k refl
 
 -- each element takes an octet at least
@@ -88,7 +88,7 @@ elements-step f p (b ∷ s) n h e =
     ap (restRight (elementsIn f (length s)) (b ∷ s)) e
     ∙ elements-fuel f p (length s) (length (drop n (b ∷ s))) (drop n (b ∷ s)) (omega (arith, length-drop n (b ∷ s), p (b ∷ s) n e)) (omega arith)
 
-elements-fault : (f : List ℕ → Checked) (s : List ℕ) → 1 ≤ length s → f s ≡ Fault → elementsIn f (length s) s ≡ false
+elements-fault : (f : List ℕ → Checked) (s : List ℕ) → 1 ≤ length s → f s ≡ NoElement → elementsIn f (length s) s ≡ false
 unfolding elementsIn restRight
 elements-fault f [] h e = absurd (omega arith)
 elements-fault f (b ∷ s) h e = ap (restRight (elementsIn f (length s)) (b ∷ s)) e
@@ -103,7 +103,7 @@ pub contents-cons : (d : ℕ) (s : List ℕ) (n : ℕ) → size d s ≡ some n �
 contents-cons d s n q =
     elements-step (elementOf d) (λ t k e. omega (arith, good-bounds d t k e)) s n (omega (arith, element-bounds d s n q)) (size-good d s n q)
 
-pub contents-fault : (d : ℕ) (s : List ℕ) → 1 ≤ length s → elementOf d s ≡ Fault → contentsOf d s ≡ false
+pub contents-fault : (d : ℕ) (s : List ℕ) → 1 ≤ length s → elementOf d s ≡ NoElement → contentsOf d s ≡ false
 contents-fault d s h e = elements-fault (elementOf d) s h e
 
 -- ---- an element, as what makes it one
@@ -124,7 +124,7 @@ good-facts (suc d) s n q = go (headerOf s) refl q
     go : (h : Header) → headerOf s ≡ h → elementWith (contentsOf d) s h ≡ Good n → Element (suc d) s n
     go NoHeader w x = let z : _≡_ {A = ℕ} 0 1 = cc in absurd (omega arith)
     go (At id a e) w x =
-        cond-elim (λ (c : Checked). c ≡ Good n → Element (suc d) s n) (makesElement (contentsOf d) id (part s a e)) (Good e) Fault
+        cond-elim (λ (c : Checked). c ≡ Good n → Element (suc d) s n) (makesElement (contentsOf d) id (part s a e)) (Good e) NoElement
         (λ f y.
         let m : e ≡ n = cc in
         let o : d ≡ suc d - 1 = omega arith in
@@ -151,7 +151,7 @@ good-made zero s n f = absurd (omega arith)
 good-made (suc d) s n f =
     let o : suc d - 1 ≡ d = omega arith in
     ap (elementWith (contentsOf d) s) (f .header)
-    ∙ sym (cond-true (Good n) Fault (and-true (f .rule) (ap (λ (x : ℕ). cond (constructed (f .id)) (contentsOf x (part s (f .a) n)) true) (sym o) ∙ f .inside)))
+    ∙ sym (cond-true (Good n) NoElement (and-true (f .rule) (ap (λ (x : ℕ). cond (constructed (f .id)) (contentsOf x (part s (f .a) n)) true) (sym o) ∙ f .inside)))
 
 pub element-made : (d : ℕ) (s : List ℕ) (n : ℕ) → Element d s n → size d s ≡ some n
 element-made d s n f = good-size d s n (good-made d s n f)

@@ -90,7 +90,7 @@ long-fewest m n s h e =
     (λ g. omega (arith, length-long-size n g, count-fewest m n h (omega arith)))
     (less-or-not n 0x80)
 
--- octets that say the same length are no fewer
+-- validates `lengthOctets`: octets that say the same length are no fewer
 pub length-shortest : (s : List ℕ) (k n : ℕ) → lengthOf s ≡ Is k n → length (lengthOctets n) ≤ k
 unfolding lengthOf
 length-shortest [] k n q = let z : _≡_ {A = ℕ} 0 1 = cc in absurd (omega arith)

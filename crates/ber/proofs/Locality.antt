@@ -2,14 +2,14 @@
 use mathlib.Core.Path.{_≡_, refl, sym, ap, _∙_}
 use mathlib.Core.Bool.{Bool, true, cond}
 use mathlib.Core.List.{List, [], _∷_, _++_, append-nil}
-use mathlib.Core.Option.{Option, some}
+use mathlib.Core.Option.{some}
 use Prim.Native.Nat.{ℕ, zero, suc, _+_, _-_, _≤_}
 use native.Mathlib.Omega.{arith}
 use lib.ListN.{length, take, drop, length-drop, take-append-drop}
 use lib.Seq.{take-append-le, drop-append-le, length-take-le}
 use Rattle.base.proofs.Tests.{cond-elim₂}
 use Rattle.ber.specs.declared.element.Checked.{Checked}
-use Rattle.ber.specs.declared.element.Checked.the-variants.{Good, Fault}
+use Rattle.ber.specs.declared.element.Checked.the-variants.{Good, NoElement}
 use Rattle.ber.specs.Rule.{contentRule}
 use Rattle.ber.specs.Element.{part, constructed, restRight, elementsIn, elementOf, contentsOf, size, wellFormed}
 use Rattle.ber.proofs.HeaderLaws.{Bounds, header-bounds}
@@ -43,17 +43,12 @@ element-prefix d p r t n q h =
 pub element-append : (d : ℕ) (s t : List ℕ) (n : ℕ) → size d s ≡ some n → size d (s ++ t) ≡ some n
 element-append d s t n q = element-prefix d s [] t n (ap (size d) (append-nil s) ∙ q) (element-bounds d s n q .1)
 
--- its own octets, alone, are the element
+-- validates `size`: the octets of an element alone are one
 pub element-alone : (d : ℕ) (s : List ℕ) (n : ℕ) → size d s ≡ some n → size d (take n s) ≡ some n
 element-alone d s n q =
     let w : length (take n s) ≡ n = length-take-le n s (element-bounds d s n q .1) in
     ap (size d) (sym (append-nil (take n s)))
     ∙ element-prefix d (take n s) (drop n s) [] n (ap (size d) (take-append-drop n s) ∙ q) (omega arith)
-
-pub well-formed-alone : (d : ℕ) (s : List ℕ) (n : ℕ) → size d s ≡ some n → wellFormed d (take n s) ≡ true
-well-formed-alone d s n q =
-    let w : length (take n s) ≡ n = length-take-le n s (element-bounds d s n q .1) in
-    size-well-formed d (take n s) (element-alone d s n q ∙ ap {B = Option ℕ} (λ k. some k) (sym w))
 
 -- ---- more levels
 
@@ -63,7 +58,7 @@ Covers f g = (s : List ℕ) (n : ℕ) → f s ≡ Good n → g s ≡ Good n
 rest-more : (f g : List ℕ → Checked) → Covers f g → (m : ℕ) → ((s : List ℕ) → elementsIn f m s ≡ true → elementsIn g m s ≡ true) → (s : List ℕ) (r : Checked)
     → f s ≡ r → restRight (elementsIn f m) s r ≡ true → restRight (elementsIn g m) s (g s) ≡ true
 unfolding restRight
-rest-more f g h m ih s Fault e q = cc
+rest-more f g h m ih s NoElement e q = cc
 rest-more f g h m ih s (Good k) e q = ap (restRight (elementsIn g m) s) (h s k e) ∙ ih (drop k s) q
 
 elements-more : (f g : List ℕ → Checked) → Covers f g → (m : ℕ) (s : List ℕ) → elementsIn f m s ≡ true → elementsIn g m s ≡ true

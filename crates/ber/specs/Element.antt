@@ -8,7 +8,7 @@ use lib.Dec.{eqb}
 use Rattle.ber.specs.declared.header.Header.{Header}
 use Rattle.ber.specs.declared.header.Header.the-variants.{At, NoHeader}
 use Rattle.ber.specs.declared.element.Checked.{Checked}
-use Rattle.ber.specs.declared.element.Checked.the-variants.{Good, Fault}
+use Rattle.ber.specs.declared.element.Checked.the-variants.{Good, NoElement}
 use Rattle.ber.specs.Header.{headerOf, lengthOctets}
 use Rattle.ber.specs.Rule.{contentRule}
 
@@ -22,7 +22,7 @@ constructed id = eqb (id / 32 % 2) 1
 
 -- what stands in s behind its first element is right
 unfoldable pub restRight : (List ℕ → Bool) → List ℕ → Checked → Bool
-restRight right s Fault = false
+restRight right s NoElement = false
 restRight right s (Good k) = right (drop k s)
 
 -- s is elements, end to end, at most n of them; `first` checks the element at the front
@@ -38,12 +38,12 @@ makesElement inside id c = contentRule id c && cond (constructed id) (inside c) 
 
 -- an element with this header
 unfoldable pub elementWith : (List ℕ → Bool) → List ℕ → Header → Checked
-elementWith inside s NoHeader = Fault
-elementWith inside s (At id a e) = cond (makesElement inside id (part s a e)) (Good e) Fault
+elementWith inside s NoHeader = NoElement
+elementWith inside s (At id a e) = cond (makesElement inside id (part s a e)) (Good e) NoElement
 
 -- the element at the front of s, with so many levels left: the outermost of 16 is level 1, and level 17 is refused
 unfoldable pub elementOf : ℕ → List ℕ → Checked
-elementOf zero s = Fault
+elementOf zero s = NoElement
 elementOf (suc d) s = elementWith (λ c. elementsIn (elementOf d) (length c) c) s (headerOf s)
 
 -- c is elements, end to end, with so many levels left
@@ -54,7 +54,7 @@ contentsOf d c = elementsIn (elementOf d) (length c) c
 
 unfoldable pub sizeIn : Checked → Option ℕ
 sizeIn (Good n) = some n
-sizeIn Fault = none
+sizeIn NoElement = none
 
 -- how many octets the element at the front of s takes, if there is one
 unfoldable pub size : ℕ → List ℕ → Option ℕ
@@ -67,11 +67,6 @@ fills n none = false
 -- s is one element, of at most d levels
 unfoldable pub wellFormed : ℕ → List ℕ → Bool
 wellFormed d s = fills (length s) (size d s)
-
--- a value is a whole element; a given value is empty for none
-unfoldable pub given : List ℕ → Option (List ℕ)
-given [] = none
-given (b ∷ v) = some (b ∷ v)
 
 -- an outgoing element: identifier, shortest length, contents
 unfoldable pub elementOctets : ℕ → List ℕ → List ℕ

@@ -8,7 +8,7 @@ ghost use Rattle.ber.specs.Element.{makesElement, elementOf, contentsOf,
 // What a check finds at the front of octets: an element of so many octets, or a fault.
 pub enum Checked {
     Good { len: usize },
-    Fault,
+    NoElement,
 }
 
 // The element at the front of s: how many octets it takes, with so many levels left.
@@ -16,15 +16,15 @@ pub fn element(s: &[u8], levels: usize) -> Checked
     ensures { λ r. ⌜ r ≡ elementOf levels (now (s .entry)) ⌝ }
 {
     if levels == 0 {
-        return Checked::Fault;
+        return Checked::NoElement;
     }
     match header_of(s) {
-        Header::NoHeader => Checked::Fault,
+        Header::NoHeader => Checked::NoElement,
         Header::At { id, start, end } => {
             if is_element(id, &s[start..end], levels - 1) {
                 return Checked::Good { len: end };
             }
-            Checked::Fault
+            Checked::NoElement
         }
     }
 }
@@ -77,7 +77,7 @@ pub fn well_formed(s: &[u8], levels: usize) -> bool
     ensures { λ r. ⌜ r ≡ wellFormed levels (now (s .entry)) ⌝ }
 {
     match element(s, levels) {
-        Checked::Fault => false,
+        Checked::NoElement => false,
         Checked::Good { len } => len == s.len(),
     }
 }

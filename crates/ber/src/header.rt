@@ -5,7 +5,8 @@ ghost use mathlib.Core.Path.{_≡_};
 ghost use Prim.Native.Nat.{_+_, _≤_, _<_, _^_};
 ghost use lib.ListN.{length};
 ghost use Rattle.ber.specs.Header.{numberFrom, continued, oneOf, refusedIdentifiers, identifierOctets, lengthOf, headerWith, headerOf, lengthCount, lengthOctets};
-ghost use Rattle.ber.specs.Output.{Put, Stored};
+ghost use Rattle.ber.specs.Output.{Put};
+ghost use Rattle.ber.specs.Steps.{Stored};
 
 // A length: how many octets it takes, and its value.
 pub enum Length {

@@ -15,7 +15,7 @@ use Rattle.optable.specs.declared.Fault.the-variants.{Layout, Count}
 use Rattle.optable.specs.Count.{every, seek}
 use Rattle.optable.specs.Read.{count}
 use Rattle.optable.specs.Validity.{withinLimit, laidOut, entryRight, partRight, valid}
-use Rattle.optable.specs.Fault.{nothing, firstWrong, entryFault, partFault, orElse, firstFault}
+use Rattle.optable.specs.Fault.{nothing, firstWrong, entryFault, partFault, firstOf, firstFault}
 use Rattle.optable.proofs.CountLaws.{every-broken, every-all, seek-found, seek-passed, seek-ended, seek-facts, seek-nowhere}
 
 -- ---- no fault, and valid
@@ -40,21 +40,21 @@ module _ (t : List ℕ) (k : Part) where
       go true = entries-right
       go false = refl
 
-both-nothing : (a b : Fault) → nothing (orElse a b) ≡ (nothing a && nothing b)
+both-nothing : (a b : Fault) → nothing (firstOf a b) ≡ (nothing a && nothing b)
 both-nothing a b = go (nothing a) refl
   where
     go : (c : Bool) → nothing a ≡ c → nothing (cond c b a) ≡ (c && nothing b)
     go true e = refl
     go false e = e
 
-four-nothing : (a b c d : Fault) → nothing (orElse a (orElse b (orElse c d))) ≡ (nothing a && (nothing b && (nothing c && nothing d)))
-four-nothing a b c d = rw (both-nothing a (orElse b (orElse c d)), both-nothing b (orElse c d), both-nothing c d) refl
+four-nothing : (a b c d : Fault) → nothing (firstOf a (firstOf b (firstOf c d))) ≡ (nothing a && (nothing b && (nothing c && nothing d)))
+four-nothing a b c d = rw (both-nothing a (firstOf b (firstOf c d)), both-nothing b (firstOf c d), both-nothing c d) refl
 
 pub faultless-is-valid : (t : List ℕ) → nothing (firstFault t) ≡ valid t
 unfolding firstFault valid
 faultless-is-valid t = go (laidOut t)
   where
-    go : (l : Bool) → nothing (cond l (orElse (partFault t Operations) (orElse (partFault t Errors) (orElse (partFault t ErrorPairs) (partFault t ChildPairs)))) Layout) ≡ (l && (partRight t Operations && (partRight t Errors && (partRight t ErrorPairs && partRight t ChildPairs))))
+    go : (l : Bool) → nothing (cond l (firstOf (partFault t Operations) (firstOf (partFault t Errors) (firstOf (partFault t ErrorPairs) (partFault t ChildPairs)))) Layout) ≡ (l && (partRight t Operations && (partRight t Errors && (partRight t ErrorPairs && partRight t ChildPairs))))
     go true = four-nothing (partFault t Operations) (partFault t Errors) (partFault t ErrorPairs) (partFault t ChildPairs) ∙ rw (part-right t Operations, part-right t Errors, part-right t ErrorPairs, part-right t ChildPairs) refl
     go false = refl
 
@@ -90,10 +90,10 @@ module _ (t : List ℕ) (k : Part) where
   unfolding partFault
   entry-decides {p} x e f g = ap (entryFault k) (sym g ∙ f) ∙ cond-true _ _ e
 
-pub first-of-two : {a x : Fault} (y : Fault) → a ≡ x → nothing a ≡ false → a ≡ orElse x y
+pub first-of-two : {a x : Fault} (y : Fault) → a ≡ x → nothing a ≡ false → a ≡ firstOf x y
 first-of-two {a} {x} y e f = e ∙ cond-false _ _ (ap nothing (sym e) ∙ f)
 
-pub second-of-two : {a b x y : Fault} → a ≡ x → nothing a ≡ true → b ≡ y → b ≡ orElse x y
+pub second-of-two : {a b x y : Fault} → a ≡ x → nothing a ≡ true → b ≡ y → b ≡ firstOf x y
 second-of-two {a} {b} {x} {y} e f g = g ∙ cond-true _ _ (ap nothing (sym e) ∙ f)
 
 module _ (t : List ℕ) where
@@ -101,6 +101,6 @@ module _ (t : List ℕ) where
   unfolding firstFault
   layout-wrong e = cond-false _ _ e
 
-  pub parts-decide : {a : Fault} → laidOut t ≡ true → a ≡ orElse (partFault t Operations) (orElse (partFault t Errors) (orElse (partFault t ErrorPairs) (partFault t ChildPairs))) → a ≡ firstFault t
+  pub parts-decide : {a : Fault} → laidOut t ≡ true → a ≡ firstOf (partFault t Operations) (firstOf (partFault t Errors) (firstOf (partFault t ErrorPairs) (partFault t ChildPairs))) → a ≡ firstFault t
   unfolding firstFault
   parts-decide {a} e f = f ∙ cond-true _ _ e

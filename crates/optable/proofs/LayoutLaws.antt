@@ -10,43 +10,43 @@ use lib.Dec.{eqb}
 use Rattle.base.proofs.Tests.{and-left, and-right}
 use Rattle.optable.specs.declared.Part.{Part}
 use Rattle.optable.specs.declared.Part.the-variants.{Operations, Errors, ErrorPairs, ChildPairs}
-use Rattle.optable.specs.Read.{sizeOf, count, start, place, octetAt}
+use Rattle.optable.specs.Read.{sizeOf, count, start, entryStart, octetAt}
 use Rattle.optable.specs.Validity.{behind, laidOut}
 
--- ---- places, in any table
+-- ---- where entries start, in any table
 
 module _ (t : List ℕ) where
-  pub first-place : (k : Part) → start t k ≡ place t k 0
-  unfolding place
-  first-place Operations = omega arith
-  first-place Errors = omega arith
-  first-place ErrorPairs = omega arith
-  first-place ChildPairs = omega arith
+  pub first-entry : (k : Part) → start t k ≡ entryStart t k 0
+  unfolding entryStart
+  first-entry Operations = omega arith
+  first-entry Errors = omega arith
+  first-entry ErrorPairs = omega arith
+  first-entry ChildPairs = omega arith
 
-  pub next-place : (k : Part) (i : ℕ) → place t k i + sizeOf k ≡ place t k (i + 1)
-  unfolding place
-  next-place Operations i = omega arith
-  next-place Errors i = omega arith
-  next-place ErrorPairs i = omega arith
-  next-place ChildPairs i = omega arith
+  pub next-entry : (k : Part) (i : ℕ) → entryStart t k i + sizeOf k ≡ entryStart t k (i + 1)
+  unfolding entryStart
+  next-entry Operations i = omega arith
+  next-entry Errors i = omega arith
+  next-entry ErrorPairs i = omega arith
+  next-entry ChildPairs i = omega arith
 
-  pub place-near : (k : Part) (i : ℕ) → start t k < 65536 → i < 65536 → place t k i < 1048560
-  unfolding place
-  place-near Operations i p q = omega arith
-  place-near Errors i p q = omega arith
-  place-near ErrorPairs i p q = omega arith
-  place-near ChildPairs i p q = omega arith
+  pub entry-near : (k : Part) (i : ℕ) → start t k < 65536 → i < 65536 → entryStart t k i < 1048560
+  unfolding entryStart
+  entry-near Operations i p q = omega arith
+  entry-near Errors i p q = omega arith
+  entry-near ErrorPairs i p q = omega arith
+  entry-near ChildPairs i p q = omega arith
 
-  pub places-rise : (k : Part) (i j : ℕ) → i ≤ j → place t k i ≤ place t k j
-  unfolding place
-  places-rise Operations i j p = omega arith
-  places-rise Errors i j p = omega arith
-  places-rise ErrorPairs i j p = omega arith
-  places-rise ChildPairs i j p = omega arith
+  pub entry-starts-rise : (k : Part) (i j : ℕ) → i ≤ j → entryStart t k i ≤ entryStart t k j
+  unfolding entryStart
+  entry-starts-rise Operations i j p = omega arith
+  entry-starts-rise Errors i j p = omega arith
+  entry-starts-rise ErrorPairs i j p = omega arith
+  entry-starts-rise ChildPairs i j p = omega arith
 
   start-behind : (k : Part) → start t k ≤ behind t k
   unfolding behind
-  start-behind k = omega (arith, first-place k, places-rise k 0 (count t k) (omega arith))
+  start-behind k = omega (arith, first-entry k, entry-starts-rise k 0 (count t k) (omega arith))
 
 -- ---- laid out
 
@@ -73,22 +73,22 @@ module _ (t : List ℕ) (l : laidOut t ≡ true) where
   pub header-there : 16 ≤ length t
   header-there = omega (arith, ends .0, start-behind t Operations, part-inside Operations)
 
-  pub entry-inside : (k : Part) (i : ℕ) → i < count t k → place t k i + sizeOf k ≤ length t
+  pub entry-inside : (k : Part) (i : ℕ) → i < count t k → entryStart t k i + sizeOf k ≤ length t
   unfolding behind
-  entry-inside k i p = omega (arith, next-place t k i, places-rise t k (i + 1) (count t k) (omega arith), part-inside k)
+  entry-inside k i p = omega (arith, next-entry t k i, entry-starts-rise t k (i + 1) (count t k) (omega arith), part-inside k)
 
   -- operations start at 16
-  operation-place : (i : ℕ) → place t Operations i ≡ 16 + i * 8
-  unfolding place
-  operation-place i = omega (arith, ends .0)
+  operation-entry : (i : ℕ) → entryStart t Operations i ≡ 16 + i * 8
+  unfolding entryStart
+  operation-entry i = omega (arith, ends .0)
 
   pub class-inside : (i : ℕ) → i < count t Operations → 16 + i * 8 + 8 ≤ length t
-  class-inside i p = omega (arith, operation-place i, entry-inside Operations i p)
+  class-inside i p = omega (arith, operation-entry i, entry-inside Operations i p)
 
   pub class-read : (i : ℕ) {n : ℕ} → n ≡ getD t (16 + i * 8 + 4) 0 → n ≡ octetAt t Operations i 4
   unfolding octetAt
   class-read i {n} e =
-      let s : 16 + i * 8 + 4 ≡ place t Operations i + 4 = omega (arith, operation-place i) in
+      let s : 16 + i * 8 + 4 ≡ entryStart t Operations i + 4 = omega (arith, operation-entry i) in
       e ∙ ap (λ (x : ℕ). getD t x 0) s
 
 pub header-missing : (t : List ℕ) → length t < 16 → false ≡ laidOut t

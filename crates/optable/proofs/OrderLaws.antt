@@ -39,5 +39,6 @@ ranked a b p q = go (ltb a 2147483648) refl (ltb b 2147483648) refl
         let n : ℕ = 4294967296 - suc a in
         simp (e, f) (same-order m n (rank a) (rank b) (ltb m n) refl (λ l. omega arith) (λ l. omega arith))
 
+-- validates `below`: it is the order of the signed numbers
 pub below-signed : (a b : Code) → a .0 < 4294967296 → b .0 < 4294967296 → below a b ≡ ltZ (toZ w32 (a .0)) (toZ w32 (b .0))
 below-signed a b p q = ranked (a .0) (b .0) p q

@@ -15,7 +15,8 @@ use Rattle.optable.specs.declared.Place.the-variants.{At, Nowhere}
 use Rattle.optable.specs.Count.{any}
 use Rattle.optable.specs.Read.{count, hasCode, firstAt, secondAt, secondPart}
 use Rattle.optable.specs.Validity.{coded, valid}
-use Rattle.optable.specs.Lookup.{joins, joined, parentAt, hasChild, CodeAnswer, PairAnswer, pairWithin}
+use Rattle.optable.specs.Lookup.{joins, joined, parentAt, hasChild, CodeAnswer, PairAnswer}
+use Rattle.optable.specs.Steps.{pairWithin}
 use Rattle.optable.proofs.CountLaws.{any-here, any-where}
 use Rattle.optable.proofs.ListLaws.{second-coded}
 use Rattle.optable.proofs.TableLaws.{valid-limit, pair-first, pair-second}

@@ -69,7 +69,7 @@ module _ (t : List ℕ) (v : valid t ≡ true) where
 
   -- ---- entries by code
 
-  -- a code stands once
+  -- validates `valid`: a code stands once
   pub code-once : (k : Part) → coded k ≡ true → (c : Code) (i j : ℕ) → i < count t k → j < count t k → hasCode t k c i ≡ true → hasCode t k c j ≡ true → i ≡ j
   code-once k w c i j p q e f = codes-distinct t k w (valid-ordered k) i j p q (has-code-is t k c i e ∙ sym (has-code-is t k c j f))
 
@@ -133,10 +133,7 @@ module _ (t : List ℕ) (v : valid t ≡ true) where
       let a = any-where (joins t ErrorPairs c e) (count t ErrorPairs) h in
       rw (error-at (secondAt t ErrorPairs (a .0)) e (pair-second ErrorPairs refl (a .0) (a .1 .0)) (and-right (hasCode t Operations c (firstAt t ErrorPairs (a .0))) _ (a .1 .1)))
 
-  pub paired-listed : (c e : Code) → paired t c e ≡ true → listed (operationOf t c) ≡ true
-  paired-listed c e h = joined-operation ErrorPairs refl c e h .0
-
-  -- an operation of class 4 or 5 has no error
+  -- validates `valid`: an operation of class 4 or 5 has no error
   pub errorless-unpaired : (c e : Code) → (classOf (operationOf t c) ≡ 4) ⊎ (classOf (operationOf t c) ≡ 5) → paired t c e ≡ false
   unfolding allowed
   errorless-unpaired c e h = go (paired t c e) refl h
@@ -146,7 +143,7 @@ module _ (t : List ℕ) (v : valid t ≡ true) where
       go true f (inl u) = rw (eq-eqb (classOf (operationOf t c)) 4 u) at (sym (joined-operation ErrorPairs refl c e f .1))
       go true f (inr u) = sym (joined-operation ErrorPairs refl c e f .1) ∙ rw u
 
-  -- an operation of class 5 has no child
+  -- validates `valid`: an operation of class 5 has no child
   pub answerless-childless : (c : Code) → classOf (operationOf t c) ≡ 5 → hasChild t c ≡ false
   unfolding allowed
   answerless-childless c u = go (hasChild t c) refl

@@ -1,4 +1,4 @@
--- What a walk over a part reads at its place is what the definitions read of the entry, and the next place is the next entry's.
+-- What a walk over a part reads is what the definitions read of the entry, and it goes on to where the next entry starts.
 use Prim.Native.Nat.{ℕ, _+_, _-_, _*_, _/_, _%_, _≤_, _<_}
 use native.Mathlib.Omega.{arith}
 use mathlib.Core.Path.{_≡_, refl, ap, subst, _∙_}
@@ -10,20 +10,20 @@ use lib.Dec.{eqb, ltb}
 use Rattle.optable.specs.declared.Part.{Part}
 use Rattle.optable.specs.declared.Part.the-variants.{Operations, Errors, ErrorPairs, ChildPairs}
 use Rattle.optable.specs.declared.entry.Reached.{Reached}
-use Rattle.optable.specs.Read.{u16, u32, sizeOf, count, start, place, octetAt, codeAt, firstAt, secondAt, below}
+use Rattle.optable.specs.Read.{u16, u32, sizeOf, count, start, entryStart, octetAt, codeAt, firstAt, secondAt, below}
 use Rattle.optable.specs.Validity.{laidOut, ruleRight, operationRight, pairRight, coded, pairBelow, above, fieldsRight}
-use Rattle.optable.specs.Walk.{Stands}
-use Rattle.optable.proofs.LayoutLaws.{next-place, place-near, places-rise, entry-inside}
+use Rattle.optable.specs.Steps.{Stands}
+use Rattle.optable.proofs.LayoutLaws.{next-entry, entry-near, entry-starts-rise, entry-inside}
 use Rattle.optable.proofs.OrderLaws.{same-order}
 use Rattle.optable.proofs.ValidityAnswers.{first-below, first-above, first-same, above-by-code, above-by-pair, error-rule-decides}
 
--- ---- places
+-- ---- where it stands
 
-pub walk-near : (t : List ℕ) (k : Part) (i : ℕ) {a : ℕ} → a ≡ place t k i → start t k < 65536 → i < 65536 → a < 1048560
-walk-near t k i {a} e p q = omega (arith, e, place-near t k i p q)
+pub walk-near : (t : List ℕ) (k : Part) (i : ℕ) {a : ℕ} → a ≡ entryStart t k i → start t k < 65536 → i < 65536 → a < 1048560
+walk-near t k i {a} e p q = omega (arith, e, entry-near t k i p q)
 
 -- a walk over a table that is laid out stands at an entry of it
-pub walk-stands : (t : List ℕ) {k : Part} {i n a b : ℕ} → laidOut t ≡ true → n ≡ count t k → i < n → n < 65536 → start t k < 65536 → a ≡ place t k i → (1 ≤ i → b ≡ place t k (i - 1)) → Stands t k (record { index = i; at = a; before = b })
+pub walk-stands : (t : List ℕ) {k : Part} {i n a b : ℕ} → laidOut t ≡ true → n ≡ count t k → i < n → n < 65536 → start t k < 65536 → a ≡ entryStart t k i → (1 ≤ i → b ≡ entryStart t k (i - 1)) → Stands t k (record { index = i; at = a; before = b })
 walk-stands t {k} {i} {n} {a} {b} l c p m q e f = record {
   laid = l;
   here = e;
@@ -32,11 +32,11 @@ walk-stands t {k} {i} {n} {a} {b} l c p m q e f = record {
   near = walk-near t k i e q (omega arith);
 }
 
-pub walk-next : (t : List ℕ) (k : Part) (i : ℕ) {a s : ℕ} → a ≡ place t k i → s ≡ sizeOf k → a + s ≡ place t k (i + 1)
-walk-next t k i {a} {s} e f = ap (λ (x : ℕ). x + s) e ∙ ap (λ (x : ℕ). place t k i + x) f ∙ next-place t k i
+pub walk-next : (t : List ℕ) (k : Part) (i : ℕ) {a s : ℕ} → a ≡ entryStart t k i → s ≡ sizeOf k → a + s ≡ entryStart t k (i + 1)
+walk-next t k i {a} {s} e f = ap (λ (x : ℕ). x + s) e ∙ ap (λ (x : ℕ). entryStart t k i + x) f ∙ next-entry t k i
 
-pub walk-last : (t : List ℕ) (k : Part) (i : ℕ) {a : ℕ} → a ≡ place t k i → a ≡ place t k (i + 1 - 1)
-walk-last t k i {a} e = e ∙ ap (place t k) (omega arith)
+pub walk-last : (t : List ℕ) (k : Part) (i : ℕ) {a : ℕ} → a ≡ entryStart t k i → a ≡ entryStart t k (i + 1 - 1)
+walk-last t k i {a} e = e ∙ ap (entryStart t k) (omega arith)
 
 -- ---- what is read there
 
@@ -80,13 +80,13 @@ module _ {t : List ℕ} {k : Part} {e : Reached} (w : Stands t k e) where
 
   module _ (h : 1 ≤ e .index) where
     pub before-inside : e .before + 4 ≤ length t
-    before-inside = omega (arith, w .last h, w .here, places-rise t k (e .index - 1) (e .index) (omega arith), here-inside)
+    before-inside = omega (arith, w .last h, w .here, entry-starts-rise t k (e .index - 1) (e .index) (omega arith), here-inside)
 
     pub codes-decide : {a b : ℕ} {r : Bool} → coded k ≡ true → a ≡ u32 t (e .before) → b ≡ u32 t (e .at) → r ≡ below (record { 0 = a }) (record { 0 = b }) → r ≡ above t k (e .index - 1) (e .index)
     unfolding codeAt
     codes-decide {a} {b} {r} c p q g =
-        let p′ : a ≡ u32 t (place t k (e .index - 1)) = p ∙ ap (u32 t) (w .last h) in
-        let q′ : b ≡ u32 t (place t k (e .index)) = q ∙ ap (u32 t) (w .here) in
+        let p′ : a ≡ u32 t (entryStart t k (e .index - 1)) = p ∙ ap (u32 t) (w .last h) in
+        let q′ : b ≡ u32 t (entryStart t k (e .index)) = q ∙ ap (u32 t) (w .here) in
         above-by-code t k (e .index - 1) (e .index) c (g ∙ rw (p′, q′) refl)
 
     pub pairs-decide : {a b : ℕ} {r : Bool} → coded k ≡ false → a ≡ u32 t (e .before) → u16 t (e .before + 2) < 65536 → b ≡ u32 t (e .at) → u16 t (e .at + 2) < 65536 → r ≡ ltb a b → r ≡ above t k (e .index - 1) (e .index)

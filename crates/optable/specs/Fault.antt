@@ -31,11 +31,11 @@ unfoldable pub partFault : List ℕ → Part → Fault
 partFault t k = cond (withinLimit t k) (entryFault k (firstWrong t k)) (Count k)
 
 -- the first of two faults
-abbrev pub orElse : Fault → Fault → Fault
-orElse a b = cond (nothing a) b a
+abbrev pub firstOf : Fault → Fault → Fault
+firstOf a b = cond (nothing a) b a
 
 unfoldable pub firstFault : List ℕ → Fault
 firstFault t =
     cond (laidOut t)
-    (orElse (partFault t Operations) (orElse (partFault t Errors) (orElse (partFault t ErrorPairs) (partFault t ChildPairs))))
+    (firstOf (partFault t Operations) (firstOf (partFault t Errors) (firstOf (partFault t ErrorPairs) (partFault t ChildPairs))))
     Layout

@@ -1,8 +1,8 @@
--- What a reader must believe of the operation table: document 01, 'Operation table'.
+-- What a reader must believe of the operation table: document 01, 'Operation table'. Steps only serves proofs.
 pub mod Count
 pub mod Read
 pub mod Validity
 pub mod Fault
-pub mod Walk
 pub mod Lookup
 pub mod Value
+pub mod Steps

@@ -3,7 +3,6 @@ use Prim.Native.Nat.{ℕ, _<_}
 use mathlib.Core.Path.{_≡_}
 use mathlib.Core.Bool.{Bool, true, false, _&&_}
 use mathlib.Core.List.{List}
-use lib.Dec.{eqb, leb}
 use Rattle.records.specs.declared.Code.{Code}
 use Rattle.optable.specs.Count.{every, any, seek}
 use Rattle.optable.specs.Read.{count, hasCode, operationAt, errorAt, firstAt, secondAt, secondPart}
@@ -131,7 +130,3 @@ pub record CodeAnswer {A : Type 0} (t : List ℕ) (k : Part) (c : Code) (read : 
 pub record PairAnswer (t : List ℕ) (there r : Bool) : Type 0 where
   pub in-valid : valid t ≡ true → r ≡ there
   pub in-any : r ≡ true → there ≡ true
-
--- what the search over pairs asks of pair i: this first index, and a second index from low up to high
-unfoldable pub pairWithin : List ℕ → Part → ℕ → ℕ → ℕ → ℕ → Bool
-pairWithin t k first low high i = eqb (firstAt t k i) first && (leb low (secondAt t k i) && leb (secondAt t k i) high)

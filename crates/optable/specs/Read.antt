@@ -51,16 +51,16 @@ sizeOf ErrorPairs = 4
 sizeOf ChildPairs = 4
 
 -- where entry i starts
-unfoldable pub place : List ℕ → Part → ℕ → ℕ
-place t k i = start t k + i * sizeOf k
+unfoldable pub entryStart : List ℕ → Part → ℕ → ℕ
+entryStart t k i = start t k + i * sizeOf k
 
 -- octet n of entry i
 unfoldable pub octetAt : List ℕ → Part → ℕ → ℕ → ℕ
-octetAt t k i n = getD t (place t k i + n) 0
+octetAt t k i n = getD t (entryStart t k i + n) 0
 
 -- operations and errors start with their code
 unfoldable pub codeAt : List ℕ → Part → ℕ → Code
-codeAt t k i = record { 0 = u32 t (place t k i) }
+codeAt t k i = record { 0 = u32 t (entryStart t k i) }
 
 -- entry i has the code
 unfoldable pub hasCode : List ℕ → Part → Code → ℕ → Bool
@@ -98,10 +98,10 @@ errorAt t i = Known (parameterAt t i)
 
 -- a pair: the index of an operation, and that of an error or of a child
 unfoldable pub firstAt : List ℕ → Part → ℕ → ℕ
-firstAt t k i = u16 t (place t k i)
+firstAt t k i = u16 t (entryStart t k i)
 
 unfoldable pub secondAt : List ℕ → Part → ℕ → ℕ
-secondAt t k i = u16 t (place t k i + 2)
+secondAt t k i = u16 t (entryStart t k i + 2)
 
 -- the part that a pair's second index is of
 abbrev pub secondPart : Part → Part

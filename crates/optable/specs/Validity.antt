@@ -5,7 +5,7 @@ use mathlib.Core.List.{List}
 use lib.ListN.{length}
 use lib.Dec.{eqb, leb, ltb}
 use Rattle.optable.specs.Count.{every}
-use Rattle.optable.specs.Read.{count, start, place, below, codeAt, classAt, flagsAt, argumentAt, resultAt, flagAt, parameterAt, firstAt, secondAt, secondPart}
+use Rattle.optable.specs.Read.{count, start, entryStart, below, codeAt, classAt, flagsAt, argumentAt, resultAt, flagAt, parameterAt, firstAt, secondAt, secondPart}
 use Rattle.optable.specs.declared.Part.{Part}
 use Rattle.optable.specs.declared.Part.the-variants.{Operations, Errors, ErrorPairs, ChildPairs}
 use Rattle.optable.specs.declared.Rule.{Rule}
@@ -25,7 +25,7 @@ withinLimit t k = leb (count t k) (limitOf k)
 
 -- where a part ends
 unfoldable pub behind : List ℕ → Part → ℕ
-behind t k = place t k (count t k)
+behind t k = entryStart t k (count t k)
 
 -- the four parts follow in order, the first at 16, end to end, filling the table exactly
 unfoldable pub laidOut : List ℕ → Bool

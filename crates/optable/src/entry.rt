@@ -6,7 +6,7 @@ ghost use Prim.Native.Nat.{_-_, _≤_, _<_};
 ghost use Rattle.optable.specs.Validity.{laidOut, operationRight, allowed, pairRight, coded, above, rises, fieldsRight, entryRight};
 ghost use Rattle.optable.specs.Read.{count, classAt};
 ghost use Rattle.optable.specs.Fault.{firstWrong};
-ghost use Rattle.optable.specs.Walk.{Stands, countsOf};
+ghost use Rattle.optable.specs.Steps.{Stands, countsOf};
 use crate::Part;
 use crate::Place;
 use crate::Rule;
@@ -62,7 +62,7 @@ fn is_allowed(part: Part, class: u8) -> bool
     }
 }
 
-// An entry that a walk has reached: its index, its place, and the place of the entry before it.
+// An entry that a walk has reached: its index, where it starts, and where the entry before it starts.
 struct Reached {
     index: u16,
     at: usize,
@@ -206,7 +206,7 @@ pub(crate) fn first_wrong(table: &[u8], part: Part) -> Place
     let n = count_within(table, part);
     let counts = counts_of(table, part);
     let size = size_of(part);
-    let mut at = start_within(table, part);
+    let mut at = start_within(table, part) as usize;
     let mut before: usize = 0;
     let mut i: u16 = 0;
     while i < n {

@@ -3,7 +3,7 @@ ghost use mathlib.Core.Path.{_≡_};
 ghost use Rattle.optable.specs.Validity.{valid};
 ghost use Rattle.optable.specs.Fault.{firstFault};
 ghost use Rattle.optable.specs.Lookup.{operationIn, errorIn, paired, childOf, hasChild, CodeAnswer, PairAnswer};
-ghost use Rattle.ber.specs.Element.{given};
+ghost use Rattle.base.specs.Lists.{nonEmpty};
 ghost use Rattle.optable.specs.Value.{valueRight};
 
 mod answer;
@@ -135,7 +135,7 @@ pub fn has_child(table: &[u8], parent: Code) -> bool
 
 // Whether a value, empty for none, is right by a rule.
 pub fn value_right(rule: Rule, value: &[u8]) -> bool
-    ensures { λ r. ⌜ r ≡ valueRight rule (given (now (value .entry))) ⌝ }
+    ensures { λ r. ⌜ r ≡ valueRight rule (nonEmpty (now (value .entry))) ⌝ }
 {
     if value.len() == 0 {
         if rule.identifier == 0 {

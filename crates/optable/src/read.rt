@@ -2,7 +2,8 @@
 ghost use mathlib.Core.Path.{_≡_};
 ghost use Prim.Native.Nat.{_+_, _<_, _≤_};
 ghost use lib.ListN.{getD, length};
-ghost use Rattle.optable.specs.Read.{u16, u32, headOf, sizeOf, count, start, place, octetAt, codeAt, hasCode, operationAt, errorAt, firstAt, secondAt, secondPart, rank, below};
+ghost use Rattle.optable.specs.Read.{u16, u32, headOf, sizeOf, count, start, entryStart, octetAt, codeAt, hasCode, operationAt, errorAt, firstAt, secondAt, secondPart, rank, below};
+ghost use Rattle.optable.specs.Validity.{behind};
 use crate::Error;
 use crate::Operation;
 use crate::Part;
@@ -98,10 +99,10 @@ pub fn count(table: &[u8], part: Part) -> u16
     two(table, head_of(part))
 }
 
-pub fn start(table: &[u8], part: Part) -> usize
-    ensures { λ r. ⌜ (r ≡ start (now (table .entry)) part) × (r < 65536) ⌝ }
+pub fn start(table: &[u8], part: Part) -> u16
+    ensures { λ r. ⌜ r ≡ start (now (table .entry)) part ⌝ }
 {
-    two(table, head_of(part) + 2) as usize
+    two(table, head_of(part) + 2)
 }
 
 // A part's count and start, read of a table that has its header.
@@ -112,31 +113,38 @@ pub(crate) fn count_within(table: &[u8], part: Part) -> u16
     two_within(table, head_of(part))
 }
 
-pub(crate) fn start_within(table: &[u8], part: Part) -> usize
+pub(crate) fn start_within(table: &[u8], part: Part) -> u16
     requires { ⌜ 16 ≤ length (now table) ⌝ }
-    ensures { λ r. ⌜ (r ≡ start (now (table .entry)) part) × (r < 65536) ⌝ }
+    ensures { λ r. ⌜ r ≡ start (now (table .entry)) part ⌝ }
 {
-    two_within(table, head_of(part) + 2) as usize
+    two_within(table, head_of(part) + 2)
 }
 
-// Where entry `i` starts.
-pub fn entry_place(table: &[u8], part: Part, i: u16) -> usize
-    ensures { λ r. ⌜ (r ≡ place (now (table .entry)) part i) × (r < 1048560) ⌝ }
+// Where entry `i` starts, so near that no sum with it wraps.
+fn entry_start(table: &[u8], part: Part, i: u16) -> usize
+    ensures { λ r. ⌜ (r ≡ entryStart (now (table .entry)) part i) × (r < 1048560) ⌝ }
 {
-    start(table, part) + (i as usize) * size_of(part)
+    (start(table, part) as usize) + (i as usize) * size_of(part)
+}
+
+// Where a part ends.
+pub fn end(table: &[u8], part: Part) -> usize
+    ensures { λ r. ⌜ r ≡ behind (now (table .entry)) part ⌝ }
+{
+    entry_start(table, part, count(table, part))
 }
 
 // Octet `n` of entry `i`.
 pub fn octet_at(table: &[u8], part: Part, i: u16, n: u8) -> u8
     ensures { λ r. ⌜ r ≡ octetAt (now (table .entry)) part i n ⌝ }
 {
-    octet(table, entry_place(table, part, i) + (n as usize))
+    octet(table, entry_start(table, part, i) + (n as usize))
 }
 
 pub fn code_at(table: &[u8], part: Part, i: u16) -> Code
     ensures { λ r. ⌜ r ≡ codeAt (now (table .entry)) part i ⌝ }
 {
-    Code(four(table, entry_place(table, part, i)))
+    Code(four(table, entry_start(table, part, i)))
 }
 
 pub(crate) fn has_code(table: &[u8], part: Part, code: Code, i: u16) -> bool
@@ -149,19 +157,19 @@ pub(crate) fn has_code(table: &[u8], part: Part, code: Code, i: u16) -> bool
 pub fn first_at(table: &[u8], part: Part, i: u16) -> u16
     ensures { λ r. ⌜ r ≡ firstAt (now (table .entry)) part i ⌝ }
 {
-    two(table, entry_place(table, part, i))
+    two(table, entry_start(table, part, i))
 }
 
 pub fn second_at(table: &[u8], part: Part, i: u16) -> u16
     ensures { λ r. ⌜ r ≡ secondAt (now (table .entry)) part i ⌝ }
 {
-    two(table, entry_place(table, part, i) + 2)
+    two(table, entry_start(table, part, i) + 2)
 }
 
 pub fn operation_at(table: &[u8], i: u16) -> Operation
     ensures { λ r. ⌜ r ≡ operationAt (now (table .entry)) i ⌝ }
 {
-    let at = entry_place(table, Part::Operations, i);
+    let at = entry_start(table, Part::Operations, i);
     let flags = octet(table, at + 7);
     Operation::Listed {
         class: octet(table, at + 4),
@@ -179,7 +187,7 @@ pub fn operation_at(table: &[u8], i: u16) -> Operation
 pub fn error_at(table: &[u8], i: u16) -> Error
     ensures { λ r. ⌜ r ≡ errorAt (now (table .entry)) i ⌝ }
 {
-    let at = entry_place(table, Part::Errors, i);
+    let at = entry_start(table, Part::Errors, i);
     let flag = octet(table, at + 5);
     Error::Known(Rule {
         identifier: octet(table, at + 4),

@@ -36,7 +36,7 @@ fn behind(table: &[u8], part: Part) -> usize
     requires { ⌜ 16 ≤ length (now table) ⌝ }
     ensures { λ r. ⌜ r ≡ behind (now (table .entry)) part ⌝ }
 {
-    start_within(table, part) + (count_within(table, part) as usize) * size_of(part)
+    (start_within(table, part) as usize) + (count_within(table, part) as usize) * size_of(part)
 }
 
 pub(crate) fn is_laid_out(table: &[u8]) -> bool
@@ -48,13 +48,13 @@ pub(crate) fn is_laid_out(table: &[u8]) -> bool
     if start_within(table, Part::Operations) != 16 {
         return false;
     }
-    if start_within(table, Part::Errors) != behind(table, Part::Operations) {
+    if (start_within(table, Part::Errors) as usize) != behind(table, Part::Operations) {
         return false;
     }
-    if start_within(table, Part::ErrorPairs) != behind(table, Part::Errors) {
+    if (start_within(table, Part::ErrorPairs) as usize) != behind(table, Part::Errors) {
         return false;
     }
-    if start_within(table, Part::ChildPairs) != behind(table, Part::ErrorPairs) {
+    if (start_within(table, Part::ChildPairs) as usize) != behind(table, Part::ErrorPairs) {
         return false;
     }
     table.len() == behind(table, Part::ChildPairs)

@@ -50,10 +50,6 @@ module _ (r : Record) (l : List Record) where
 
 -- ---- what is found
 
-pub lookup-absent : (n : ℕ) (l : List Record) → member n l ≡ false → lookup n l ≡ Nothing
-lookup-absent n [] h = refl
-lookup-absent n (r ∷ l) h = rw (head-other r l n h) (lookup-absent n l (tail-absent r l n h))
-
 pub nothing-is-absent : (n : ℕ) (l : List Record) → lookup n l ≡ Nothing → member n l ≡ false
 nothing-is-absent n [] h = refl
 nothing-is-absent n (r ∷ l) h =
@@ -83,10 +79,12 @@ distinct-added (x ∷ l) r h g =
     rw (member-added (x .id) l r (head-once x l h) apart)
     (distinct-added l r (tail-distinct x l h) (tail-absent x l (r .id) g))
 
+-- validates `added`: the new record is found by its id
 pub lookup-added : (l : List Record) (r : Record) → member (r .id) l ≡ false → lookup (r .id) (l ++ r ∷ []) ≡ Operation (r .code)
 lookup-added [] r h = simp (eq-eqb (r .id) (r .id) refl)
 lookup-added (x ∷ l) r h = rw (head-other x l (r .id) h) (lookup-added l r (tail-absent x l (r .id) h))
 
+-- validates `added`: what is found of another id stays
 pub lookup-added-other : (n : ℕ) (l : List Record) (r : Record) → (r .id ≡ n → ⊥) → lookup n (l ++ r ∷ []) ≡ lookup n l
 lookup-added-other n [] r h = simp (ne-eqb _ _ h)
 lookup-added-other n (x ∷ l) r h = rw (lookup-added-other n l r h)
@@ -113,7 +111,7 @@ without-absent n [] h = refl
 without-absent n (r ∷ l) h =
     sym (cond-false (without n l) (r ∷ without n l) (head-other r l n h)) ∙ ap (λ (x : List Record). r ∷ x) (without-absent n l (tail-absent r l n h))
 
--- where no id stands twice, exactly one record is taken out
+-- validates `retired`: where no id stands twice, exactly one record is taken out
 pub without-one : (n : ℕ) (l : List Record) → distinct l ≡ true → member n l ≡ true → length l ≡ suc (length (without n l))
 without-one n [] once h = absurd (false≢true h)
 without-one n (r ∷ l) once h =
@@ -134,12 +132,14 @@ distinct-without n (r ∷ l) h =
     without-cases (λ x. distinct x ≡ true) n r l (λ _. rest)
     (λ _. rw (member-without n (r .id) l (head-once r l h)) rest)
 
+-- validates `retired`: the id is found no more
 pub lookup-retired : (n : ℕ) (l : List Record) → lookup n (without n l) ≡ Nothing
 lookup-retired n [] = refl
 lookup-retired n (r ∷ l) =
     let rest = lookup-retired n l in
     without-cases (λ x. lookup n x ≡ Nothing) n r l (λ _. rest) (λ e. rw e rest)
 
+-- validates `retired`: what is found of another id stays
 pub lookup-retired-other : (m n : ℕ) (l : List Record) → (m ≡ n → ⊥) → lookup m (without n l) ≡ lookup m l
 lookup-retired-other m n [] h = refl
 lookup-retired-other m n (r ∷ l) h =

@@ -14,7 +14,7 @@ use Rattle.records.specs.declared.Records.{Records}
 use Rattle.records.specs.declared.State.{State}
 use Rattle.records.specs.Limits.{records}
 use Rattle.records.specs.Records.{sameCode, unused, view, pack, member, without, distinct, blank, soundRecords, added, retired}
-use Rattle.records.specs.State.{fresh, soundState, viewed}
+use Rattle.records.specs.State.{fresh, soundState}
 use Rattle.records.proofs.Laws.{same-code-equal, distinct-added, distinct-without, without-shorter, without-absent}
 
 -- ---- the list and the side that holds it
@@ -26,16 +26,13 @@ one-less : (k : ℕ) → k < records → records - k ≡ suc (records - (k + 1))
 one-less k p = omega arith
 
 -- a record put behind the live ones
-abbrev pub placed : Records → Record → Records
-placed s r = record { count = s .count + 1; places = set (s .places) (s .count) r }
+abbrev pub appended : Records → Record → Records
+appended s r = record { count = s .count + 1; places = set (s .places) (s .count) r }
 
-pub placed-pack : (l : List Record) (r : Record) → length l < records → placed (pack l) r ≡ pack (l ++ r ∷ [])
-placed-pack l r p =
+pub appended-pack : (l : List Record) (r : Record) → length l < records → appended (pack l) r ≡ pack (l ++ r ∷ [])
+appended-pack l r p =
     let e = one-less (length l) p in
     simp (e, set-append-seam, length-append, append-assoc)
-
-pub retired-pack : (l : List Record) (n : ℕ) → retired (pack l) n ≡ pack (without n l)
-retired-pack l n = rw view-pack
 
 pub view-retired : (s : Records) (n : ℕ) → view (retired s n) ≡ without n (view s)
 view-retired s n = view-pack (without n (view s))
@@ -106,7 +103,7 @@ packed-is-sound l few once =
 module _ {s : Records} (h : Sound s) where
   -- the new record goes last
   pub added-is-packed : (r : Record) → length (view s) < records → added s r ≡ pack (view s ++ r ∷ [])
-  added-is-packed r room = ap (λ (t : Records). added t r) (h .packed) ∙ simp (lt-ltb _ _ room) (placed-pack (view s) r room)
+  added-is-packed r room = ap (λ (t : Records). added t r) (h .packed) ∙ simp (lt-ltb _ _ room) (appended-pack (view s) r room)
 
   pub view-added : (r : Record) → length (view s) < records → view (added s r) ≡ view s ++ r ∷ []
   view-added r room = ap view (added-is-packed r room) ∙ view-pack (view s ++ r ∷ [])
@@ -122,6 +119,7 @@ module _ {s : Records} (h : Sound s) where
       (omega (arith, without-shorter n (view s), length-take (s .count) (s .places), sound-is-short s (h .test)))
       (distinct-without n (view s) (sound-is-distinct s (h .test)))
 
+  -- validates `retired`: an id that is not there retires nothing
   pub retired-absent : (n : ℕ) → member n (view s) ≡ false → retired s n ≡ s
   retired-absent n gone = ap pack (without-absent n (view s) gone) ∙ sym (h .packed)
 
@@ -136,11 +134,15 @@ fresh-is-sound =
     let side = packed-is-sound [] (omega arith) refl in
     record { own = side; peer = side }
 
-pub both-packed : (s : State) → s .own ≡ pack (view (s .own)) → s .peer ≡ pack (view (s .peer)) → s ≡ viewed s
-both-packed s p q =
-    let e : _≡_ {A = State} (record { own = s .own; peer = s .peer }) (viewed s) = cc in
-    e
-
 module _ {s : State} (h : SoundBoth s) where
   pub sound-state : soundState s ≡ true
   sound-state = and-true (h .own .test) (h .peer .test)
+
+-- validates `soundState`: where each side has its 32 places, as it has in code, a sound state is its live records with unused places behind
+pub sound-state-packed : (s : State) → length (s .own .places) ≡ records → length (s .peer .places) ≡ records → soundState s ≡ true
+    → s ≡ record { own = pack (view (s .own)); peer = pack (view (s .peer)) }
+sound-state-packed s p q h =
+    let own = sound-is-packed (s .own) p (and-left (soundRecords (s .own)) (soundRecords (s .peer)) h) in
+    let peer = sound-is-packed (s .peer) q (and-right (soundRecords (s .own)) (soundRecords (s .peer)) h) in
+    let e : _≡_ {A = State} (record { own = s .own; peer = s .peer }) (record { own = pack (view (s .own)); peer = pack (view (s .peer)) }) = cc in
+    e

@@ -14,13 +14,17 @@ use Rattle.records.specs.declared.Record.{Record}
 use Rattle.records.specs.declared.Records.{Records}
 use Rattle.records.specs.declared.Found.the-variants.{Operation}
 use Rattle.records.specs.Limits.{records}
-use Rattle.records.specs.Records.{unused, view, pack, lookup, member, without, distinct, blank, soundRecords, SideAnswer}
+use Rattle.records.specs.Records.{unused, view, pack, lookup, member, without, distinct, blank}
 use Rattle.records.proofs.Laws.{without-append}
-use Rattle.records.proofs.Soundness.{placed, placed-pack, sound-is-packed}
+use Rattle.records.proofs.Soundness.{appended, appended-pack}
 
 -- what owning an array of structs tells of its length is told of the mapped list
 pub unmapped : {X Y : Type 0} (f : X → Y) (l : List X) (n : ℕ) → length (map f l) ≡ n → length l ≡ n
 unmapped f l n p = sym (length-map l f) ∙ p
+
+-- the live records are among the places
+pub live-few : (s : Records) → length (s .places) ≡ records → length (view s) ≤ records
+live-few s full = omega (arith, length-take (s .count) (s .places))
 
 -- ---- whether the places from i on are unused
 
@@ -94,10 +98,10 @@ module _ (s : Records) (i : ℕ) (p : i < length (view s)) where
     kept-at h = rw (taken-at, without-append) (simp (ne-eqb _ _ h))
 
     pub kept-step : (k : Records) → k .count < records → k ≡ pack (without n (take i (view s))) → (getD (s .places) i unused .id ≡ n → ⊥)
-        → placed k (getD (s .places) i unused) ≡ pack (without n (take (i + 1) (view s)))
+        → appended k (getD (s .places) i unused) ≡ pack (without n (take (i + 1) (view s)))
     kept-step k room e h =
         let few : length (without n (take i (view s))) < records = subst (λ (t : Records). t .count < records) e room in
-        rw (e, kept-at h) (placed-pack (without n (take i (view s))) (getD (s .places) i unused) few)
+        rw (e, kept-at h) (appended-pack (without n (take i (view s))) (getD (s .places) i unused) few)
 
 -- ---- soundness
 
@@ -108,6 +112,3 @@ few-distinct (r ∷ q ∷ l) h = absurd (omega arith)
 
 pub few-once : (s : Records) → s .count < 2 → distinct (view s) ≡ true
 few-once s h = few-distinct (view s) (omega (arith, length-take (s .count) (s .places)))
-
-pub side-answer : (s : Records) (r : Bool) → length (s .places) ≡ records → r ≡ soundRecords s → SideAnswer s r
-side-answer s r full e = record { says = e; packed = λ h. sound-is-packed s full (sym e ∙ h) }

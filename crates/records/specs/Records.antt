@@ -1,6 +1,5 @@
 -- The records of one side: document 01, 'Records'. What finding, adding and retiring mean is said of the list of the live records.
 use Prim.Native.Nat.{ℕ, _+_, _-_}
-use mathlib.Core.Path.{_≡_}
 use mathlib.Core.Bool.{Bool, true, false, cond, not, _&&_, _||_}
 use mathlib.Core.List.{List, [], _∷_, _++_}
 use lib.ListN.{length, take, drop, set, replicate}
@@ -64,8 +63,3 @@ added s r = cond (ltb (s .count) records) (record { count = s .count + 1; places
 -- a retired record closes the gap, order kept
 abbrev pub retired : Records → ℕ → Records
 retired s n = pack (without n (view s))
-
--- the answer whether a side is sound: a sound one is its live records with unused places behind
-pub record SideAnswer (s : Records) (r : Bool) : Type 0 where
-  pub says : r ≡ soundRecords s
-  pub packed : r ≡ true → s ≡ pack (view s)

@@ -3,10 +3,8 @@ mod sides;
 
 ghost use mathlib.Core.Path.{_≡_};
 ghost use mathlib.Core.List.{[]};
-ghost use Prim.Native.Nat.{_≤_};
 ghost use lib.ListN.{length, drop};
-ghost use Rattle.records.specs.Limits.{records};
-ghost use Rattle.records.specs.Records.{sameCode, view, pack, lookup, added, retired, distinct, blank, SideAnswer};
+ghost use Rattle.records.specs.Records.{sameCode, view, pack, lookup, added, retired, distinct, blank, soundRecords};
 
 // The id of an invocation that this end made: the two's complement bits of a signed 32-bit number.
 pub struct OwnId(pub u32);
@@ -68,7 +66,7 @@ impl Records {
 
     // How many records are live: a count over the limit counts every place.
     pub fn live(self) -> usize
-        ensures { λ r. ⌜ (r ≡ length (view self)) × (r ≤ records) ⌝ }
+        ensures { λ r. ⌜ r ≡ length (view self) ⌝ }
     {
         if self.count < State::RECORDS {
             self.count
@@ -132,7 +130,7 @@ impl Records {
     }
 
     fn sound(self) -> bool
-        ensures { λ r. ⌜ SideAnswer self r ⌝ }
+        ensures { λ r. ⌜ r ≡ soundRecords self ⌝ }
     {
         if State::RECORDS < self.count {
             return false;

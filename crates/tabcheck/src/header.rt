@@ -4,25 +4,21 @@ use crate::text::part_name;
 use crate::text::say;
 use optable::Part;
 use optable::read::count;
-use optable::read::entry_place;
+use optable::read::end;
 use optable::read::start;
 
-// Where a part ends, if it starts where the header says.
-fn behind(table: &[u8], part: Part) -> usize {
-    entry_place(table, part, count(table, part))
-}
-
+// Where a part starts, if the one before it starts where the header says.
 fn expected_start(table: &[u8], part: Part) -> usize {
     match part {
         Part::Operations => 16,
-        Part::Errors => behind(table, Part::Operations),
-        Part::ErrorPairs => behind(table, Part::Errors),
-        Part::ChildPairs => behind(table, Part::ErrorPairs),
+        Part::Errors => end(table, Part::Operations),
+        Part::ErrorPairs => end(table, Part::Errors),
+        Part::ChildPairs => end(table, Part::ErrorPairs),
     }
 }
 
 fn is_misplaced(table: &[u8], part: Part) -> bool {
-    start(table, part) != expected_start(table, part)
+    (start(table, part) as usize) != expected_start(table, part)
 }
 
 fn offset_line(table: &[u8], part: Part) {
@@ -63,7 +59,7 @@ pub(crate) fn layout_line(table: &[u8]) {
         return;
     }
     say(b"table: ");
-    length_line(table.len(), behind(table, Part::ChildPairs));
+    length_line(table.len(), end(table, Part::ChildPairs));
 }
 
 pub(crate) fn count_line(table: &[u8], part: Part) {

@@ -5,17 +5,11 @@ use borrow.Author.Needs.{needs}
 use Rattle.optable.proofs.first_fault.Statement.{statement}
 use Rattle.optable.proofs.first_fault.Tie as tie
 
-is-laid-out-requires : tie.Need-is-laid-out-requires
-is-laid-out-requires c κs = search needs
-
 returns : tie.Need-returns
 returns c = layout-wrong _ (said-no (c .before .is-laid-out .ensures) (c .if1 .taken))
 
 part-fault-requires : tie.Need-part-fault-requires
 part-fault-requires c κs = said-yes (c .before .is-laid-out .ensures) (c .if1 .left)
-
-is-nothing-requires : tie.Need-is-nothing-requires
-is-nothing-requires c κs = search needs
 
 returns-2 : tie.Need-returns-2
 returns-2 c =
@@ -28,9 +22,6 @@ part-fault-requires-2 c κs =
     let l = c .before .before .before in
     said-yes (l .before .is-laid-out .ensures) (l .if1 .left)
 
-is-nothing-requires-2 : tie.Need-is-nothing-requires-2
-is-nothing-requires-2 c κs = search needs
-
 returns-3 : tie.Need-returns-3
 returns-3 c =
     let is-nothing2 = c .before in let part-fault2 = is-nothing2 .before in let o = part-fault2 .before in let l = o .before .before .before in
@@ -42,9 +33,6 @@ part-fault-requires-3 : tie.Need-part-fault-requires-3
 part-fault-requires-3 c κs =
     let l = c .before .before .before .before .before .before in
     said-yes (l .before .is-laid-out .ensures) (l .if1 .left)
-
-is-nothing-requires-3 : tie.Need-is-nothing-requires-3
-is-nothing-requires-3 c κs = search needs
 
 returns-4 : tie.Need-returns-4
 returns-4 c =
@@ -72,17 +60,5 @@ returns-5 c =
 pub first-fault-spec : {M : Type 1} → statement M
 first-fault-spec =
     tie.close
-    (tie.spec
-    is-laid-out-requires
-    returns
-    part-fault-requires
-    is-nothing-requires
-    returns-2
-    part-fault-requires-2
-    is-nothing-requires-2
-    returns-3
-    part-fault-requires-3
-    is-nothing-requires-3
-    returns-4
-    part-fault-requires-4
-    returns-5)
+    (tie.spec (λ c κs. search needs) returns part-fault-requires (λ c κs. search needs) returns-2 part-fault-requires-2
+    (λ c κs. search needs) returns-3 part-fault-requires-3 (λ c κs. search needs) returns-4 part-fault-requires-4 returns-5)

@@ -7,18 +7,6 @@ use borrow.Author.Needs.{needs}
 use Rattle.optable.proofs.operation_of.Statement.{statement}
 use Rattle.optable.proofs.operation_of.Tie as tie
 
-find-requires : tie.Need-find-requires
-find-requires c κs = search needs
-
-enum-known-i : tie.Need-enum-known-i
-enum-known-i c = search needs
-
-operation-at-requires : tie.Need-operation-at-requires
-operation-at-requires c κs = search needs
-
-enum-told : tie.Need-enum-told
-enum-told c = search needs
-
 returns : tie.Need-returns
 unfolding operationIn
 returns c =
@@ -31,5 +19,4 @@ returns-2 c = read-of-place _ _ _ _ _ Nowhere _ (c .before .before .find .ensure
 
 pub operation-of-spec : {M : Type 1} → statement M
 operation-of-spec =
-    tie.close
-    (tie.spec find-requires enum-known-i operation-at-requires enum-told returns returns-2)
+    tie.close (tie.spec (λ c κs. search needs) (λ c. search needs) (λ c κs. search needs) (λ c. search needs) returns returns-2)

@@ -66,24 +66,11 @@ contents-sub-t t c = omega arith
 contents-part-t-start : (t : ℕ) → contents-lts.Need-part-t-start (contents-calls t) (contents-at t) contents.Post contents-Inv-loop contents-μ-loop
 contents-part-t-start t c = omega arith
 
-contents-part-t-end : (t : ℕ) → contents-lts.Need-part-t-end (contents-calls t) (contents-at t) contents.Post contents-Inv-loop contents-μ-loop
-contents-part-t-end t c = search needs
-
-contents-header-of-requires : (t : ℕ)
-    → contents-lts.Need-header-of-requires (contents-calls t) (contents-at t) contents.Post contents-Inv-loop contents-μ-loop
-contents-header-of-requires t c κs = search needs
-
-contents-enum-told : (t : ℕ) → contents-lts.Need-enum-told (contents-calls t) (contents-at t) contents.Post contents-Inv-loop contents-μ-loop
-contents-enum-told t c = search needs
-
 contents-returns-2 : (t : ℕ) → contents-lts.Need-returns-2 (contents-calls t) (contents-at t) contents.Post contents-Inv-loop contents-μ-loop
 contents-returns-2 t c =
     let header-of = c .before .before in let loop = header-of .before .before .before in
     rest-no-header _ _ (loop .loop .at) (loop .loop .inv .1) (omega arith) (loop .before .if1 .left)
     (sym (header-of .header-of .ensures) ∙ c .enum-told .given .1)
-
-contents-enum-known-id : (t : ℕ) → contents-lts.Need-enum-known-id (contents-calls t) (contents-at t) contents.Post contents-Inv-loop contents-μ-loop
-contents-enum-known-id t c = search needs
 
 contents-sub-c : (t : ℕ) → contents-lts.Need-sub-c (contents-calls t) (contents-at t) contents.Post contents-Inv-loop contents-μ-loop
 contents-sub-c t c = omega (arith, header-bounds _ _ _ _ (sym (c .before .before .before .header-of .ensures) ∙ c .before .id .given .1))
@@ -112,10 +99,6 @@ contents-returns-3 t c =
     let loop = header-of .before .before .before in
     rest-fault _ _ (loop .loop .at) (loop .loop .inv .1) (omega arith) (loop .before .if1 .left) _ _ _
     (sym (header-of .header-of .ensures) ∙ id .id .given .1) (said-no (is-element .is-element .ensures) (c .if3 .taken))
-
-contents-content-rule-requires : (t : ℕ)
-    → contents-lts.Need-content-rule-requires (contents-calls t) (contents-at t) contents.Post contents-Inv-loop contents-μ-loop
-contents-content-rule-requires t c κs = search needs
 
 contents-returns-4 : (t : ℕ) → contents-lts.Need-returns-4 (contents-calls t) (contents-at t) contents.Post contents-Inv-loop contents-μ-loop
 contents-returns-4 t c =
@@ -156,9 +139,6 @@ contents-loop-again t c =
 contents-returns-5 : (t : ℕ) → contents-lts.Need-returns-5 (contents-calls t) (contents-at t) contents.Post contents-Inv-loop contents-μ-loop
 contents-returns-5 t c = rest-end _ _ (c .before .loop .at) (c .before .loop .inv .1) (c .loop-test .left)
 
-is-element-content-rule-requires : (t : ℕ) → is-element-lts.Need-content-rule-requires (is-element-calls t) (is-element-at t) is-element.Post
-is-element-content-rule-requires t c κs = search needs
-
 is-element-returns : (t : ℕ) → is-element-lts.Need-returns (is-element-calls t) (is-element-at t) is-element.Post
 is-element-returns t c = sym (and-false-left _ _ (said-no (c .before .content-rule .ensures) (c .if1 .taken)))
 
@@ -176,38 +156,12 @@ is-element-returns-3 t c =
     sym (said-yes (if1 .before .content-rule .ensures ∙ makes-primitive _ _ _ (c .if2 .left)) (if1 .if1 .left))
 
 pub +contents+is-element-spec : {M : Type 1} → statement M
-+contents+is-element-spec = close μ-contents μ-is-element (λ t. contents-lts.spec (contents-calls t)
-    (contents-at t)
-    contents.Post
-    contents-Inv-loop
-    contents-μ-loop
-    (contents-returns t)
-    (contents-loop-holds t)
-    (contents-sub-t t)
-    (contents-part-t-start t)
-    (contents-part-t-end t)
-    (contents-header-of-requires t)
-    (contents-enum-told t)
-    (contents-returns-2 t)
-    (contents-enum-known-id t)
-    (contents-sub-c t)
-    (contents-part-c-start t)
-    (contents-part-c-end t)
-    (contents-sub-is-element t)
-    (contents-is-element-requires t)
-    (contents-returns-3 t)
-    (contents-content-rule-requires t)
-    (contents-returns-4 t)
-    (contents-add-at t)
-    (contents-loop-less t)
-    (contents-loop-again t)
-    (contents-returns-5 t))
-    λ t. is-element-lts.spec
-    (is-element-calls t)
-    (is-element-at t)
-    is-element.Post
-    (is-element-content-rule-requires t)
-    (is-element-returns t)
-    (is-element-contents-requires t)
-    (is-element-returns-2 t)
-    (is-element-returns-3 t)
++contents+is-element-spec =
+    close μ-contents μ-is-element
+    (λ t. contents-lts.spec (contents-calls t) (contents-at t) contents.Post contents-Inv-loop contents-μ-loop (contents-returns t)
+    (contents-loop-holds t) (contents-sub-t t) (contents-part-t-start t) (λ c. search needs) (λ c κs. search needs) (λ c. search needs)
+    (contents-returns-2 t) (λ c. search needs) (contents-sub-c t) (contents-part-c-start t) (contents-part-c-end t)
+    (contents-sub-is-element t) (contents-is-element-requires t) (contents-returns-3 t) (λ c κs. search needs) (contents-returns-4 t)
+    (contents-add-at t) (contents-loop-less t) (contents-loop-again t) (contents-returns-5 t))
+    λ t. is-element-lts.spec (is-element-calls t) (is-element-at t) is-element.Post (λ c κs. search needs) (is-element-returns t)
+    (is-element-contents-requires t) (is-element-returns-2 t) (is-element-returns-3 t)

@@ -10,15 +10,6 @@ use Rattle.ber.proofs.element.element.Tie as tie
 returns : tie.Need-returns
 returns c = element-no-level _ _ (c .if1 .taken)
 
-header-of-requires : tie.Need-header-of-requires
-header-of-requires c κs = search needs
-
-enum-told : tie.Need-enum-told
-enum-told c = search needs
-
-enum-known-id : tie.Need-enum-known-id
-enum-known-id c = search needs
-
 sub-is-element : tie.Need-sub-is-element
 sub-is-element c = omega (arith, header-bounds _ _ _ _ (sym (c .before .before .before .header-of .ensures) ∙ c .before .id .given .1))
 
@@ -27,12 +18,6 @@ part-is-element-start c = omega (arith, header-bounds _ _ _ _ (sym (c .before .b
 
 part-is-element-end : tie.Need-part-is-element-end
 part-is-element-end c = omega (arith, header-bounds _ _ _ _ (sym (c .before .before .before .header-of .ensures) ∙ c .before .id .given .1))
-
-sub-is-element-2 : tie.Need-sub-is-element-2
-sub-is-element-2 c = search needs
-
-is-element-requires : tie.Need-is-element-requires
-is-element-requires c κs = search needs
 
 returns-2 : tie.Need-returns-2
 returns-2 c =
@@ -54,16 +39,5 @@ returns-4 c =
 pub element-spec : {M : Type 1} → statement M
 element-spec =
     tie.close
-    (tie.spec
-    returns
-    header-of-requires
-    enum-told
-    enum-known-id
-    sub-is-element
-    part-is-element-start
-    part-is-element-end
-    sub-is-element-2
-    is-element-requires
-    returns-2
-    returns-3
-    returns-4)
+    (tie.spec returns (λ c κs. search needs) (λ c. search needs) (λ c. search needs) sub-is-element part-is-element-start
+    part-is-element-end (λ c. search needs) (λ c κs. search needs) returns-2 returns-3 returns-4)

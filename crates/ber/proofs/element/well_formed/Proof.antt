@@ -4,15 +4,6 @@ use borrow.Author.Needs.{needs}
 use Rattle.ber.proofs.element.well_formed.Statement.{statement}
 use Rattle.ber.proofs.element.well_formed.Tie as tie
 
-element-requires : tie.Need-element-requires
-element-requires c κs = search needs
-
-enum-told : tie.Need-enum-told
-enum-told c = search needs
-
-enum-known-len : tie.Need-enum-known-len
-enum-known-len c = search needs
-
 returns : tie.Need-returns
 returns c = well-formed-fault _ _ _ (c .before .before .element .ensures) (cc)
 
@@ -20,4 +11,4 @@ returns-2 : tie.Need-returns-2
 returns-2 c = well-formed-by _ _ _ (c .before .before .before .element .ensures) _ (cc)
 
 pub well-formed-spec : {M : Type 1} → statement M
-well-formed-spec = tie.close (tie.spec element-requires enum-told enum-known-len returns returns-2)
+well-formed-spec = tie.close (tie.spec (λ c κs. search needs) (λ c. search needs) (λ c. search needs) returns returns-2)

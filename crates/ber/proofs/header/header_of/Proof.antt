@@ -8,23 +8,8 @@ use borrow.Author.Needs.{needs}
 use Rattle.ber.proofs.header.header_of.Statement.{statement}
 use Rattle.ber.proofs.header.header_of.Tie as tie
 
-identifier-octets-requires : tie.Need-identifier-octets-requires
-identifier-octets-requires c κs = search needs
-
 returns : tie.Need-returns
 returns c = header-none _ _ (c .before .identifier-octets .ensures) (omega arith)
-
-shared-slice-read-if3 : tie.Need-shared-slice-read-if3
-shared-slice-read-if3 c = search needs
-
-shared-slice-read-header-with : tie.Need-shared-slice-read-header-with
-shared-slice-read-header-with c = search needs
-
-cast-header-with : tie.Need-cast-header-with
-cast-header-with c = search needs
-
-header-with-requires : tie.Need-header-with-requires
-header-with-requires c κs = search needs
 
 returns-2 : tie.Need-returns-2
 returns-2 c =
@@ -36,18 +21,6 @@ sub-length-of c = omega (arith, identifier-within (c .before .before .before .be
 
 part-length-of-start : tie.Need-part-length-of-start
 part-length-of-start c = omega (arith, identifier-within (c .before .before .before .before .args .s .now), c .before .before .identifier-octets .ensures)
-
-part-length-of-end : tie.Need-part-length-of-end
-part-length-of-end c = search needs
-
-length-of-requires : tie.Need-length-of-requires
-length-of-requires c κs = search needs
-
-enum-told : tie.Need-enum-told
-enum-told c = search needs
-
-enum-known-octets : tie.Need-enum-known-octets
-enum-known-octets c = search needs
 
 header-with-requires-2 : tie.Need-header-with-requires-2
 header-with-requires-2 c κs =
@@ -70,20 +43,6 @@ returns-4 c =
 pub header-of-spec : {M : Type 1} → statement M
 header-of-spec =
     tie.close
-    (tie.spec
-    identifier-octets-requires
-    returns
-    shared-slice-read-if3
-    shared-slice-read-header-with
-    cast-header-with
-    header-with-requires
-    returns-2
-    sub-length-of
-    part-length-of-start
-    part-length-of-end
-    length-of-requires
-    enum-told
-    enum-known-octets
-    header-with-requires-2
-    returns-3
-    returns-4)
+    (tie.spec (λ c κs. search needs) returns (λ c. search needs) (λ c. search needs) (λ c. search needs) (λ c κs. search needs) returns-2
+    sub-length-of part-length-of-start (λ c. search needs) (λ c κs. search needs) (λ c. search needs) (λ c. search needs)
+    header-with-requires-2 returns-3 returns-4)

@@ -6,29 +6,11 @@ use borrow.Author.Needs.{needs}
 use Rattle.optable.proofs.entry.are_fields_right.Statement.{statement}
 use Rattle.optable.proofs.entry.are_fields_right.Tie as tie
 
-enum-told : tie.Need-enum-told
-enum-told c = search needs
-
 is-operation-at-right-requires : tie.Need-is-operation-at-right-requires
 is-operation-at-right-requires c κs = stands-as (cc) (c .before .before .before .pre .0)
 
-enum-told-2 : tie.Need-enum-told-2
-enum-told-2 c = search needs
-
 is-error-at-right-requires : tie.Need-is-error-at-right-requires
 is-error-at-right-requires c κs = stands-as (cc) (c .before .before .before .pre .0)
-
-enum-told-3 : tie.Need-enum-told-3
-enum-told-3 c = search needs
-
-is-pair-right-requires : tie.Need-is-pair-right-requires
-is-pair-right-requires c κs = search needs
-
-enum-told-4 : tie.Need-enum-told-4
-enum-told-4 c = search needs
-
-is-pair-right-requires-2 : tie.Need-is-pair-right-requires-2
-is-pair-right-requires-2 c κs = search needs
 
 returns : tie.Need-returns
 returns c = cc
@@ -45,16 +27,5 @@ returns-4 c = c .is-pair-right2 .ensures ∙ pair-fields _ _ _ ChildPairs (cc) r
 pub are-fields-right-spec : {M : Type 1} → statement M
 are-fields-right-spec =
     tie.close
-    (tie.spec
-    enum-told
-    is-operation-at-right-requires
-    enum-told-2
-    is-error-at-right-requires
-    enum-told-3
-    is-pair-right-requires
-    enum-told-4
-    is-pair-right-requires-2
-    returns
-    returns-2
-    returns-3
-    returns-4)
+    (tie.spec (λ c. search needs) is-operation-at-right-requires (λ c. search needs) is-error-at-right-requires (λ c. search needs)
+    (λ c κs. search needs) (λ c. search needs) (λ c κs. search needs) returns returns-2 returns-3 returns-4)

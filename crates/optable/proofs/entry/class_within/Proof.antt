@@ -5,15 +5,6 @@ use borrow.Author.Needs.{needs}
 use Rattle.optable.proofs.entry.class_within.Statement.{statement}
 use Rattle.optable.proofs.entry.class_within.Tie as tie
 
-mul-result : tie.Need-mul-result
-mul-result c = search needs
-
-add-result : tie.Need-add-result
-add-result c = search needs
-
-add-result-2 : tie.Need-add-result-2
-add-result-2 c = search needs
-
 shared-slice-read-result : tie.Need-shared-slice-read-result
 shared-slice-read-result c = omega (arith, class-inside _ (c .before .pre .0) _ (c .before .pre .1))
 
@@ -21,5 +12,4 @@ returns : tie.Need-returns
 returns c = class-read _ (c .before .pre .0) _ (cc)
 
 pub class-within-spec : {M : Type 1} → statement M
-class-within-spec =
-    tie.close (tie.spec mul-result add-result add-result-2 shared-slice-read-result returns)
+class-within-spec = tie.close (tie.spec (λ c. search needs) (λ c. search needs) (λ c. search needs) shared-slice-read-result returns)

@@ -1,14 +1,14 @@
--- The invariant: the walk stands at the place of entry i, and the first wrong entry is the first of those left. The measure: entries left.
+-- The invariant: the walk stands where entry i starts, and the first wrong entry is the first of those left. The measure: entries left.
 use Prim.Native.Nat.{_≤_, _-_}
 use native.Mathlib.Omega.{arith}
 use mathlib.Core.Path.{_≡_, _∙_}
 use mathlib.Core.Bool.{not}
 use Rattle.base.proofs.Tests.{said-no, said-yes}
 use Rattle.optable.specs.Count.{seek}
-use Rattle.optable.specs.Read.{place}
+use Rattle.optable.specs.Read.{entryStart}
 use Rattle.optable.specs.Validity.{entryRight}
 use Rattle.optable.specs.Fault.{firstWrong}
-use Rattle.optable.proofs.LayoutLaws.{first-place, header-there}
+use Rattle.optable.proofs.LayoutLaws.{first-entry, header-there}
 use Rattle.optable.proofs.WalkLaws.{walk-stands, walk-near, walk-next, walk-last}
 use Rattle.optable.proofs.FaultLaws.{walk-starts, wrong-found, right-passed, walk-ended}
 use borrow.Author.Needs.{needs}
@@ -17,7 +17,7 @@ use Rattle.optable.proofs.entry.first_wrong.Tie as tie
 
 abbrev Inv-loop : tie.InvT-loop
 Inv-loop table part n counts size at₀ before₀ i₀ at before i =
-    (i ≤ n) × (at ≡ place table part i) × (1 ≤ i → before ≡ place table part (i - 1)) × (firstWrong table part ≡ seek (λ j. not (entryRight table part j)) (n - i) i)
+    (i ≤ n) × (at ≡ entryStart table part i) × (1 ≤ i → before ≡ entryStart table part (i - 1)) × (firstWrong table part ≡ seek (λ j. not (entryRight table part j)) (n - i) i)
 
 abbrev μ-loop : tie.MeasureT-loop
 μ-loop table part n counts size at₀ before₀ i₀ at before i = n - i
@@ -28,15 +28,12 @@ count-within-requires c κs = header-there _ (c .before .pre)
 counts-of-requires : tie.Need-counts-of-requires Inv-loop μ-loop
 counts-of-requires c κs = header-there _ (c .before .before .pre)
 
-size-of-requires : tie.Need-size-of-requires Inv-loop μ-loop
-size-of-requires c κs = search needs
-
 start-within-requires : tie.Need-start-within-requires Inv-loop μ-loop
 start-within-requires c κs = header-there _ (c .before .before .before .before .pre)
 
 loop-holds : tie.Need-loop-holds Inv-loop μ-loop
 loop-holds c =
-    (omega arith, c .start-within .ensures .0 ∙ first-place _ _, λ p. absurd (omega arith), walk-starts _ _ _ (c .before .before .before .count-within .ensures))
+    (omega arith, c .start-within .ensures ∙ first-entry _ _, λ p. absurd (omega arith), walk-starts _ _ _ (c .before .before .before .count-within .ensures))
 
 is-entry-right-requires : tie.Need-is-entry-right-requires Inv-loop μ-loop
 is-entry-right-requires c κs =
@@ -74,18 +71,5 @@ returns-2 c = walk-ended _ _ _ _ (c .before .loop .inv .3) (omega arith)
 pub first-wrong-spec : {M : Type 1} → statement M
 first-wrong-spec =
     tie.close
-    (tie.spec
-    Inv-loop
-    μ-loop
-    count-within-requires
-    counts-of-requires
-    size-of-requires
-    start-within-requires
-    loop-holds
-    is-entry-right-requires
-    returns
-    add-at
-    add-i
-    loop-less
-    loop-again
-    returns-2)
+    (tie.spec Inv-loop μ-loop count-within-requires counts-of-requires (λ c κs. search needs) start-within-requires (λ c. search needs) loop-holds
+    is-entry-right-requires returns add-at add-i loop-less loop-again returns-2)

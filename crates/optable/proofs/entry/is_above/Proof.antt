@@ -11,12 +11,6 @@ four-within-requires c κs = before-inside (c .before .pre .0) (c .before .pre .
 four-within-requires-2 : tie.Need-four-within-requires-2
 four-within-requires-2 c κs = here-inside (c .before .before .pre .0)
 
-is-coded-requires : tie.Need-is-coded-requires
-is-coded-requires c κs = search needs
-
-is-below-requires : tie.Need-is-below-requires
-is-below-requires c κs = search needs
-
 returns : tie.Need-returns
 returns c =
     let is-coded = c .before .before in let here = is-coded .before in let before = here .before in let start = before .before .before in
@@ -31,11 +25,4 @@ returns-2 c =
 
 pub is-above-spec : {M : Type 1} → statement M
 is-above-spec =
-    tie.close
-    (tie.spec
-    four-within-requires
-    four-within-requires-2
-    is-coded-requires
-    is-below-requires
-    returns
-    returns-2)
+    tie.close (tie.spec four-within-requires four-within-requires-2 (λ c κs. search needs) (λ c κs. search needs) returns returns-2)

@@ -6,20 +6,8 @@ use borrow.Author.Needs.{needs}
 use Rattle.optable.proofs.entry.is_allowed.Statement.{statement}
 use Rattle.optable.proofs.entry.is_allowed.Tie as tie
 
-enum-told : tie.Need-enum-told
-enum-told c = search needs
-
-enum-told-2 : tie.Need-enum-told-2
-enum-told-2 c = search needs
-
-enum-told-3 : tie.Need-enum-told-3
-enum-told-3 c = search needs
-
 returns : tie.Need-returns
 returns c = class-4-errorless _ _ (cc) (omega arith)
-
-enum-told-4 : tie.Need-enum-told-4
-enum-told-4 c = search needs
 
 returns-2 : tie.Need-returns-2
 unfolding allowed
@@ -38,13 +26,5 @@ returns-5 c = class-5-childless _ _ (cc)
 pub is-allowed-spec : {M : Type 1} → statement M
 is-allowed-spec =
     tie.close
-    (tie.spec
-    enum-told
-    enum-told-2
-    enum-told-3
-    returns
-    enum-told-4
-    returns-2
-    returns-3
-    returns-4
+    (tie.spec (λ c. search needs) (λ c. search needs) (λ c. search needs) returns (λ c. search needs) returns-2 returns-3 returns-4
     returns-5)

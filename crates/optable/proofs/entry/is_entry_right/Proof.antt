@@ -5,18 +5,11 @@ use borrow.Author.Needs.{needs}
 use Rattle.optable.proofs.entry.is_entry_right.Statement.{statement}
 use Rattle.optable.proofs.entry.is_entry_right.Tie as tie
 
-are-fields-right-requires : tie.Need-are-fields-right-requires
-are-fields-right-requires c κs = search needs
-
 returns : tie.Need-returns
 returns c = entry-wrong _ _ _ (said-no (c .before .are-fields-right .ensures) (c .if1 .taken))
-
-is-rising-requires : tie.Need-is-rising-requires
-is-rising-requires c κs = search needs
 
 returns-2 : tie.Need-returns-2
 returns-2 c = order-decides _ _ _ (said-yes (c .before .before .are-fields-right .ensures) (c .before .if1 .left)) (c .is-rising .ensures)
 
 pub is-entry-right-spec : {M : Type 1} → statement M
-is-entry-right-spec =
-    tie.close (tie.spec are-fields-right-requires returns is-rising-requires returns-2)
+is-entry-right-spec = tie.close (tie.spec (λ c κs. search needs) returns (λ c κs. search needs) returns-2)

@@ -7,23 +7,8 @@ use borrow.Author.Needs.{needs}
 use Rattle.optable.proofs.entry.is_error_at_right.Statement.{statement}
 use Rattle.optable.proofs.entry.is_error_at_right.Tie as tie
 
-add-flag : tie.Need-add-flag
-add-flag c = search needs
-
-shared-slice-read-flag : tie.Need-shared-slice-read-flag
-shared-slice-read-flag c = search needs
-
 returns : tie.Need-returns
 returns c = error-flag-high _ _ (omega (arith, octet-read (c .before .before .before .pre) 5 refl))
-
-add-t6 : tie.Need-add-t6
-add-t6 c = search needs
-
-shared-slice-read-t8 : tie.Need-shared-slice-read-t8
-shared-slice-read-t8 c = search needs
-
-is-right-requires : tie.Need-is-right-requires
-is-right-requires c κs = search needs
 
 returns-2 : tie.Need-returns-2
 returns-2 c =
@@ -33,11 +18,4 @@ returns-2 c =
 pub is-error-at-right-spec : {M : Type 1} → statement M
 is-error-at-right-spec =
     tie.close
-    (tie.spec
-    add-flag
-    shared-slice-read-flag
-    returns
-    add-t6
-    shared-slice-read-t8
-    is-right-requires
-    returns-2)
+    (tie.spec (λ c. search needs) (λ c. search needs) returns (λ c. search needs) (λ c. search needs) (λ c κs. search needs) returns-2)

@@ -15,16 +15,10 @@ returns-2 c = class-high _ _ _ _ (omega arith) (omega arith)
 returns-3 : tie.Need-returns-3
 returns-3 c = flags-high _ _ _ _ (omega arith) (omega arith) (omega arith)
 
-is-right-requires : tie.Need-is-right-requires
-is-right-requires c κs = search needs
-
 returns-4 : tie.Need-returns-4
 returns-4 c =
     argument-wrong _ _ _ _ (omega arith) (omega arith) (omega arith)
     (said-no (c .before .is-right .ensures) (c .if4 .taken))
-
-is-right-requires-2 : tie.Need-is-right-requires-2
-is-right-requires-2 c κs = search needs
 
 returns-5 : tie.Need-returns-5
 returns-5 c =
@@ -57,14 +51,4 @@ returns-8 c =
 pub is-operation-right-spec : {M : Type 1} → statement M
 is-operation-right-spec =
     tie.close
-    (tie.spec
-    returns
-    returns-2
-    returns-3
-    is-right-requires
-    returns-4
-    is-right-requires-2
-    returns-5
-    returns-6
-    returns-7
-    returns-8)
+    (tie.spec returns returns-2 returns-3 (λ c κs. search needs) returns-4 (λ c κs. search needs) returns-5 returns-6 returns-7 returns-8)

@@ -18,9 +18,6 @@ returns c =
     let first = c .before .before in let start = first .before .before in
     first-missing _ _ _ (omega (arith, first-read (start .pre .0) (first .two-within .ensures), ap (λ n. n .operations) (start .pre .1)))
 
-add-two-within : tie.Need-add-two-within
-add-two-within c = search needs
-
 two-within-requires-2 : tie.Need-two-within-requires-2
 two-within-requires-2 c κs = omega (arith, here-inside (c .before .before .before .before .before .pre .0))
 
@@ -35,9 +32,6 @@ class-within-requires c κs =
     let second = c .before .before in let first = second .before .before .before .before in let start = first .before .before in
     (start .pre .0 .laid, omega (arith, first .two-within .ensures, ap (λ n. n .operations) (start .pre .1)))
 
-is-allowed-requires : tie.Need-is-allowed-requires
-is-allowed-requires c κs = search needs
-
 returns-3 : tie.Need-returns-3
 returns-3 c =
     let second = c .before .before .before .before in let first = second .before .before .before .before in let start = first .before .before in
@@ -49,12 +43,5 @@ returns-3 c =
 pub is-pair-right-spec : {M : Type 1} → statement M
 is-pair-right-spec =
     tie.close
-    (tie.spec
-    two-within-requires
-    returns
-    add-two-within
-    two-within-requires-2
-    returns-2
-    class-within-requires
-    is-allowed-requires
+    (tie.spec two-within-requires returns (λ c. search needs) two-within-requires-2 returns-2 class-within-requires (λ c κs. search needs)
     returns-3)

@@ -16,23 +16,11 @@ Inv-loop table part code n i₀ i = (i ≤ n) × (find table part code ≡ seek 
 abbrev μ-loop : tie.MeasureT-loop
 μ-loop table part code n i₀ i = n - i
 
-count-requires : tie.Need-count-requires Inv-loop μ-loop
-count-requires c κs = search needs
-
 loop-holds : tie.Need-loop-holds Inv-loop μ-loop
 loop-holds c = (omega arith, search-starts _ _ _ _ (c .count .ensures))
 
-has-code-requires : tie.Need-has-code-requires Inv-loop μ-loop
-has-code-requires c κs = search needs
-
 returns : tie.Need-returns Inv-loop μ-loop
 returns c = search-found _ _ _ _ _ (c .before .before .before .loop .inv .1) (omega arith) (cc)
-
-add-i : tie.Need-add-i Inv-loop μ-loop
-add-i c = search needs
-
-loop-less : tie.Need-loop-less Inv-loop μ-loop
-loop-less c = search needs
 
 loop-again : tie.Need-loop-again Inv-loop μ-loop
 loop-again c = (omega arith, search-passed _ _ _ _ _ (c .before .before .before .loop .inv .1) (omega arith) (cc))
@@ -43,14 +31,5 @@ returns-2 c = search-ended _ _ _ _ _ (c .before .loop .inv .1) (omega arith)
 pub find-spec : {M : Type 1} → statement M
 find-spec =
     tie.close
-    (tie.spec
-    Inv-loop
-    μ-loop
-    count-requires
-    loop-holds
-    has-code-requires
-    returns
-    add-i
-    loop-less
-    loop-again
-    returns-2)
+    (tie.spec Inv-loop μ-loop (λ c κs. search needs) loop-holds (λ c κs. search needs) returns (λ c. search needs) (λ c. search needs)
+    loop-again returns-2)

@@ -4,15 +4,9 @@ use borrow.Author.Needs.{needs}
 use Rattle.optable.proofs.read.count.Statement.{statement}
 use Rattle.optable.proofs.read.count.Tie as tie
 
-head-of-requires : tie.Need-head-of-requires
-head-of-requires c κs = search needs
-
-two-requires : tie.Need-two-requires
-two-requires c κs = search needs
-
 returns : tie.Need-returns
 unfolding count
 returns c = cc
 
 pub count-spec : {M : Type 1} → statement M
-count-spec = tie.close (tie.spec head-of-requires two-requires returns)
+count-spec = tie.close (tie.spec (λ c κs. search needs) (λ c κs. search needs) returns)

@@ -4,15 +4,9 @@ use borrow.Author.Needs.{needs}
 use Rattle.optable.proofs.read.count_within.Statement.{statement}
 use Rattle.optable.proofs.read.count_within.Tie as tie
 
-head-of-requires : tie.Need-head-of-requires
-head-of-requires c κs = search needs
-
-two-within-requires : tie.Need-two-within-requires
-two-within-requires c κs = search needs
-
 returns : tie.Need-returns
 unfolding count
 returns c = cc
 
 pub count-within-spec : {M : Type 1} → statement M
-count-within-spec = tie.close (tie.spec head-of-requires two-within-requires returns)
+count-within-spec = tie.close (tie.spec (λ c κs. search needs) (λ c κs. search needs) returns)

@@ -9,41 +9,17 @@ use Rattle.optable.proofs.validity.is_laid_out.Tie as tie
 returns : tie.Need-returns
 returns c = header-missing _ (omega arith)
 
-start-within-requires : tie.Need-start-within-requires
-start-within-requires c κs = search needs
-
 returns-2 : tie.Need-returns-2
 returns-2 c = operations-misplaced _ (omega arith)
-
-start-within-requires-2 : tie.Need-start-within-requires-2
-start-within-requires-2 c κs = search needs
-
-behind-requires : tie.Need-behind-requires
-behind-requires c κs = search needs
 
 returns-3 : tie.Need-returns-3
 returns-3 c = errors-misplaced _ (omega arith) (omega arith)
 
-start-within-requires-3 : tie.Need-start-within-requires-3
-start-within-requires-3 c κs = search needs
-
-behind-requires-2 : tie.Need-behind-requires-2
-behind-requires-2 c κs = search needs
-
 returns-4 : tie.Need-returns-4
 returns-4 c = error-pairs-misplaced _ (omega arith) (omega arith) (omega arith)
 
-start-within-requires-4 : tie.Need-start-within-requires-4
-start-within-requires-4 c κs = search needs
-
-behind-requires-3 : tie.Need-behind-requires-3
-behind-requires-3 c κs = search needs
-
 returns-5 : tie.Need-returns-5
 returns-5 c = child-pairs-misplaced _ (omega arith) (omega arith) (omega arith) (omega arith)
-
-behind-requires-4 : tie.Need-behind-requires-4
-behind-requires-4 c κs = search needs
 
 returns-6 : tie.Need-returns-6
 returns-6 c = length-decides _ (omega arith) (omega arith) (omega arith) (c .behind4 .ensures) (omega arith)
@@ -51,18 +27,6 @@ returns-6 c = length-decides _ (omega arith) (omega arith) (omega arith) (c .beh
 pub is-laid-out-spec : {M : Type 1} → statement M
 is-laid-out-spec =
     tie.close
-    (tie.spec
-    returns
-    start-within-requires
-    returns-2
-    start-within-requires-2
-    behind-requires
-    returns-3
-    start-within-requires-3
-    behind-requires-2
-    returns-4
-    start-within-requires-4
-    behind-requires-3
-    returns-5
-    behind-requires-4
-    returns-6)
+    (tie.spec returns (λ c κs. search needs) returns-2 (λ c κs. search needs) (λ c. search needs) (λ c κs. search needs) returns-3
+    (λ c κs. search needs) (λ c. search needs) (λ c κs. search needs) returns-4 (λ c κs. search needs) (λ c. search needs)
+    (λ c κs. search needs) returns-5 (λ c κs. search needs) returns-6)

@@ -13,15 +13,6 @@ is-within-limit-requires c κs = header-there _ (c .before .pre)
 returns : tie.Need-returns
 returns c = part-too-long _ _ (said-no (c .before .is-within-limit .ensures) (c .if1 .taken))
 
-first-wrong-requires : tie.Need-first-wrong-requires
-first-wrong-requires c κs = search needs
-
-enum-known-index : tie.Need-enum-known-index
-enum-known-index c = search needs
-
-enum-told : tie.Need-enum-told
-enum-told c = search needs
-
 returns-2 : tie.Need-returns-2
 returns-2 c =
     let index = c .before in let f = index .before .before in let l = f .before in
@@ -34,12 +25,4 @@ returns-3 c =
 
 pub part-fault-spec : {M : Type 1} → statement M
 part-fault-spec =
-    tie.close
-    (tie.spec
-    is-within-limit-requires
-    returns
-    first-wrong-requires
-    enum-known-index
-    enum-told
-    returns-2
-    returns-3)
+    tie.close (tie.spec is-within-limit-requires returns (λ c κs. search needs) (λ c. search needs) (λ c. search needs) returns-2 returns-3)

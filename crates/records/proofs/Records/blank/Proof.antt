@@ -28,18 +28,6 @@ mul-place c = omega arith
 element-copy-out-place : tie.Need-element-copy-out-place Inv-loop μ-loop
 element-copy-out-place c = omega arith
 
-cast-used : tie.Need-cast-used Inv-loop μ-loop
-cast-used c = search needs
-
-mul-used : tie.Need-mul-used Inv-loop μ-loop
-mul-used c = search needs
-
-cast-used-2 : tie.Need-cast-used-2 Inv-loop μ-loop
-cast-used-2 c = search needs
-
-add-used : tie.Need-add-used Inv-loop μ-loop
-add-used c = search needs
-
 add-i : tie.Need-add-i Inv-loop μ-loop
 add-i c = omega arith
 
@@ -59,17 +47,5 @@ returns c =
 pub blank-spec : {M : Type 1} → statement M
 blank-spec =
     tie.close
-    (tie.spec
-    Inv-loop
-    μ-loop
-    loop-holds
-    mul-place
-    element-copy-out-place
-    cast-used
-    mul-used
-    cast-used-2
-    add-used
-    add-i
-    loop-less
-    loop-again
-    returns)
+    (tie.spec Inv-loop μ-loop loop-holds mul-place element-copy-out-place (λ c. search needs) (λ c. search needs) (λ c. search needs)
+    (λ c. search needs) add-i loop-less loop-again returns)

@@ -1,23 +1,33 @@
--- What a walk over a part goes by: where it has got to, and the counts that pairs are held against.
+-- What only serves the proofs of parts: no promise of a public function rests on it.
 use Prim.Native.Nat.{ℕ, _+_, _-_, _≤_, _<_}
 use mathlib.Core.Path.{_≡_}
-use mathlib.Core.Bool.{true}
+use mathlib.Core.Bool.{Bool, true, _&&_}
 use mathlib.Core.List.{List}
 use lib.ListN.{length}
-use Rattle.optable.specs.Read.{count, place, sizeOf, secondPart}
+use lib.Dec.{eqb, leb}
+use Rattle.optable.specs.Read.{count, entryStart, sizeOf, firstAt, secondAt, secondPart}
 use Rattle.optable.specs.Validity.{laidOut}
 use Rattle.optable.specs.declared.Part.{Part}
 use Rattle.optable.specs.declared.Part.the-variants.{Operations}
 use Rattle.optable.specs.declared.entry.Reached.{Reached}
 use Rattle.optable.specs.declared.entry.Counts.{Counts}
 
+-- ---- a walk over a part
+
 -- an entry of a table that is laid out stands where its index says, within the table and so near that no sum wraps; so does the one before it
 pub record Stands (t : List ℕ) (k : Part) (e : Reached) : Type 0 where
   pub laid : laidOut t ≡ true
-  pub here : e .at ≡ place t k (e .index)
-  pub last : 1 ≤ e .index → e .before ≡ place t k (e .index - 1)
+  pub here : e .at ≡ entryStart t k (e .index)
+  pub last : 1 ≤ e .index → e .before ≡ entryStart t k (e .index - 1)
   pub inside : e .at + sizeOf k ≤ length t
   pub near : e .at < 1048560
 
+-- the counts that pairs are held against
 abbrev pub countsOf : List ℕ → Part → Counts
 countsOf t k = record { operations = count t Operations; seconds = count t (secondPart k) }
+
+-- ---- the search over pairs
+
+-- pair i has this first index, and a second index from low up to high
+unfoldable pub pairWithin : List ℕ → Part → ℕ → ℕ → ℕ → ℕ → Bool
+pairWithin t k first low high i = eqb (firstAt t k i) first && (leb low (secondAt t k i) && leb (secondAt t k i) high)

@@ -1,0 +1,2 @@
+-- What several crates say of lists.
+pub mod Lists
