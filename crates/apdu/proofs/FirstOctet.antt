@@ -15,12 +15,12 @@ use Rattle.records.specs.Limits.{levels}
 use Rattle.ber.specs.declared.header.Header.{Header}
 use Rattle.ber.specs.declared.header.Header.the-variants.{At, NoHeader}
 use Rattle.ber.specs.Header.{headerOf}
-use Rattle.ber.specs.Element.{part, wellFormed, elementOctets}
+use Rattle.ber.specs.Element.{wellFormed, elementOctets}
 use Rattle.ber.proofs.HeaderLaws.{header-bounds}
 use Rattle.apdu.specs.declared.Number.{Number}
 use Rattle.apdu.specs.declared.Number.the-variants.{Of, Absent}
-use Rattle.apdu.specs.Field.{Field, fields}
-use Rattle.apdu.specs.Parse.{Apdu, badlyStructured, unrecognized, mistyped, invoke, result, error, reject, idOf, Coded, uncoded, coded, codedOf, Linked, unlinked, linked, linkedOf, invokeWith, invokeOf, resultWith, resultOf, errorOf, isProblem, idAllowed, rejectWith, rejectBehind, rejectOf, behindId, withId, byKind, parseAt, parse}
+use Rattle.apdu.specs.Field.{partOf, Field, fields}
+use Rattle.apdu.specs.Parse.{Apdu, badlyStructured, unrecognized, mistyped, invoke, result, error, reject, idOf, Coded, uncoded, coded, codedOf, Linked, unlinked, linked, linkedOf, invokeWith, invokeBehind, resultWith, resultBehind, errorBehind, isProblem, idAllowed, rejectWith, rejectBehind, rejectOf, behindId, withId, byKind, parseAt, parse}
 use Rattle.apdu.specs.Encode.{encodeInvoke, encodeResult, encodeError, encodeReject}
 
 -- the first octet of an APDU of this kind, 0 for none of the four
@@ -37,19 +37,19 @@ kindOctet (reject i k p) = 0xA4
 abbrev pub Says : ℕ → Apdu → Type 0
 Says t a = (kindOctet a ≡ 0) ⊎ (kindOctet a ≡ t)
 
-says-coded : (i : ℕ) (l : Number) (c : Coded) → Says 0xA1 (invokeWith i l c) × Says 0xA2 (resultWith i c) × Says 0xA3 (errorOf i c)
-unfolding invokeWith resultWith errorOf
+says-coded : (i : ℕ) (l : Number) (c : Coded) → Says 0xA1 (invokeWith i l c) × Says 0xA2 (resultWith i c) × Says 0xA3 (errorBehind i c)
+unfolding invokeWith resultWith errorBehind
 says-coded i l uncoded = (inl refl, inl refl, inl refl)
 says-coded i l (coded c none) = (inr refl, inl refl, inr refl)
 says-coded i l (coded c (some v)) = (inr refl, inr refl, inr refl)
 
-says-invoke : (i : ℕ) (l : Linked) → Says 0xA1 (invokeOf i l)
-unfolding invokeOf
+says-invoke : (i : ℕ) (l : Linked) → Says 0xA1 (invokeBehind i l)
+unfolding invokeBehind
 says-invoke i unlinked = inl refl
 says-invoke i (linked l fs) = says-coded i l (codedOf fs) .0
 
-says-result : (i : ℕ) (fs : List Field) → Says 0xA2 (resultOf i fs)
-unfolding resultOf
+says-result : (i : ℕ) (fs : List Field) → Says 0xA2 (resultBehind i fs)
+unfolding resultBehind
 says-result i [] = inr refl
 says-result i (f ∷ []) =
     cond-elim (Says 0xA2) (eqb (f .identifier) 0x30) (resultWith i (codedOf (fields (f .contents)))) (mistyped (Of i))
@@ -60,7 +60,7 @@ says-behind : (n : Number) (t : ℕ) (fs : List Field) → Says 0xA4 (rejectBehi
 unfolding rejectBehind rejectWith
 says-behind n t [] = inl refl
 says-behind n t (g ∷ []) =
-    cond-elim (Says 0xA4) (isProblem (g .identifier) (g .contents) && idAllowed n t (g .identifier)) (reject n (g .identifier) (getD (g .contents) 0 0)) (mistyped Absent)
+    cond-elim (Says 0xA4) (isProblem (g .identifier) (g .contents .octets) && idAllowed n t (g .identifier)) (reject n (g .identifier) (getD (g .contents .octets) 0 0)) (mistyped Absent)
     (λ _. inr refl) (λ _. inl refl)
 says-behind n t (g ∷ h ∷ fs) = inl refl
 
@@ -76,13 +76,13 @@ says-id : (t : ℕ) (n : Number) (fs : List Field) → 0xA1 ≤ t → t ≤ 0xA3
 unfolding behindId
 says-id t Absent fs l h = inl refl
 says-id t (Of i) fs l h =
-    cond-elim (Says t) (eqb t 0xA1) (invokeOf i (linkedOf fs)) (cond (eqb t 0xA2) (resultOf i fs) (errorOf i (codedOf fs)))
-    (λ e. says-as t 0xA1 (invokeOf i (linkedOf fs)) (eqb-true t 0xA1 e) (says-invoke i (linkedOf fs)))
-    (λ x. cond-elim (Says t) (eqb t 0xA2) (resultOf i fs) (errorOf i (codedOf fs))
-    (λ e. says-as t 0xA2 (resultOf i fs) (eqb-true t 0xA2 e) (says-result i fs))
-    (λ y. says-as t 0xA3 (errorOf i (codedOf fs)) (omega (arith, eqb-false t 0xA1 x, eqb-false t 0xA2 y)) (says-coded i Absent (codedOf fs) .2)))
+    cond-elim (Says t) (eqb t 0xA1) (invokeBehind i (linkedOf fs)) (cond (eqb t 0xA2) (resultBehind i fs) (errorBehind i (codedOf fs)))
+    (λ e. says-as t 0xA1 (invokeBehind i (linkedOf fs)) (eqb-true t 0xA1 e) (says-invoke i (linkedOf fs)))
+    (λ x. cond-elim (Says t) (eqb t 0xA2) (resultBehind i fs) (errorBehind i (codedOf fs))
+    (λ e. says-as t 0xA2 (resultBehind i fs) (eqb-true t 0xA2 e) (says-result i fs))
+    (λ y. says-as t 0xA3 (errorBehind i (codedOf fs)) (omega (arith, eqb-false t 0xA1 x, eqb-false t 0xA2 y)) (says-coded i Absent (codedOf fs) .2)))
 
-pub says-with : (t : ℕ) (fs : List Field) → 0xA1 ≤ t → t ≤ 0xA3 → Says t (withId t fs)
+says-with : (t : ℕ) (fs : List Field) → 0xA1 ≤ t → t ≤ 0xA3 → Says t (withId t fs)
 unfolding withId
 says-with t [] l h = inl refl
 says-with t (f ∷ fs) l h = says-id t (idOf f) fs l h
@@ -97,7 +97,7 @@ says-kind t fs =
 says-at : (x : List ℕ) (h : Header) → headerOf x ≡ h → Says (getD x 0 0) (parseAt x h)
 unfolding parseAt
 says-at x NoHeader q = inl refl
-says-at x (At id a e) q = subst (λ (t : ℕ). Says t (byKind id (fields (part x a e)))) (header-bounds x id a e q .first) (says-kind id (fields (part x a e)))
+says-at x (At id a e) q = subst (λ (t : ℕ). Says t (byKind id (fields (partOf x a e)))) (header-bounds x id a e q .first) (says-kind id (fields (partOf x a e)))
 
 says-first : (x : List ℕ) → Says (getD x 0 0) (parse x)
 unfolding parse
@@ -112,7 +112,7 @@ first-read x a e h = go (says-first x)
     go (inr o) = omega (arith, ap kindOctet e)
 
 -- an encoding starts with its identifier
-pub first-written : (t : ℕ) (c : List ℕ) → getD (elementOctets t c) 0 0 ≡ t
+first-written : (t : ℕ) (c : List ℕ) → getD (elementOctets t c) 0 0 ≡ t
 unfolding elementOctets
 first-written t c = refl
 

@@ -4,7 +4,7 @@ use mathlib.Core.Path.{_≡_, refl, sym, ap, _∙_}
 use mathlib.Core.Bool.{true, false, _&&_}
 use mathlib.Core.List.{List, [], _∷_}
 use native.Mathlib.Omega.{arith}
-use lib.ListN.{length, getD}
+use lib.ListN.{length}
 use lib.Dec.{eqb, leb}
 use borrow.Author.Tests.{eq-eqb, ne-eqb, le-leb, lt-leb}
 use Rattle.base.proofs.Tests.{cond-true, cond-false, and-true, and-false-left, and-false-right}
@@ -14,41 +14,27 @@ use Rattle.ber.specs.Header.{headerOf}
 use Rattle.ber.specs.Element.{part, makesElement, contentsOf, wellFormed}
 use Rattle.ber.proofs.ElementAnswers.{well-formed-headless, well-formed-at}
 use Rattle.apdu.specs.declared.Number.{Number}
-use Rattle.apdu.specs.declared.Number.the-variants.{Of, Absent}
-use Rattle.apdu.specs.Field.{Field, fields}
-use Rattle.apdu.specs.Parse.{badlyStructured, unrecognized, mistyped, codedOf, linkedOf, invokeOf, resultOf, errorOf, reject, isProblem, idAllowed, rejectWith, rejectOf, behindId, withId, byKind, parseAt, parse}
+use Rattle.apdu.specs.declared.Number.the-variants.{Of}
+use Rattle.apdu.specs.Field.{partOf, Field, fields}
+use Rattle.apdu.specs.Parse.{badlyStructured, unrecognized, mistyped, codedOf, linkedOf, invokeBehind, resultBehind, errorBehind, rejectOf, behindId, withId, byKind, parseAt, parse}
 
 -- A2: a field that is not 30, whatever follows
-pub result-not : (i : ℕ) (f : Field) (fs : List Field) → (f .identifier ≡ 0x30 → ⊥) → mistyped (Of i) ≡ resultOf i (f ∷ fs)
-unfolding resultOf
+pub result-not : (i : ℕ) (f : Field) (fs : List Field) → (f .identifier ≡ 0x30 → ⊥) → mistyped (Of i) ≡ resultBehind i (f ∷ fs)
+unfolding resultBehind
 result-not i f [] n = cond-false _ _ (ne-eqb (f .identifier) 0x30 n)
 result-not i f (g ∷ fs) n = refl
 
--- A4: a problem and an id that goes with it
-module _ (n : Number) (t k : ℕ) (c : List ℕ) where
-  pub reject-right : isProblem k c ≡ true → idAllowed n t k ≡ true → reject n k (getD c 0 0) ≡ rejectWith n t k c
-  unfolding rejectWith
-  reject-right x y = cond-true _ _ (and-true x y)
-
-  pub reject-problem : isProblem k c ≡ false → mistyped Absent ≡ rejectWith n t k c
-  unfolding rejectWith
-  reject-problem x = cond-false _ _ (and-false-left (isProblem k c) (idAllowed n t k) x)
-
-  pub reject-id : idAllowed n t k ≡ false → mistyped Absent ≡ rejectWith n t k c
-  unfolding rejectWith
-  reject-id y = cond-false _ _ (and-false-right (isProblem k c) (idAllowed n t k) y)
-
 -- A1 to A3 behind a right id
 module _ (t i : ℕ) (n : Number) (fs : List Field) (w : n ≡ Of i) where
-  pub behind-invoke : t ≡ 0xA1 → invokeOf i (linkedOf fs) ≡ behindId t n fs
+  pub behind-invoke : t ≡ 0xA1 → invokeBehind i (linkedOf fs) ≡ behindId t n fs
   unfolding behindId
   behind-invoke e = cond-true _ _ (eq-eqb t 0xA1 e) ∙ ap (λ (m : Number). behindId t m fs) (sym w)
 
-  pub behind-result : (t ≡ 0xA1 → ⊥) → t ≡ 0xA2 → resultOf i fs ≡ behindId t n fs
+  pub behind-result : (t ≡ 0xA1 → ⊥) → t ≡ 0xA2 → resultBehind i fs ≡ behindId t n fs
   unfolding behindId
   behind-result x e = cond-true _ _ (eq-eqb t 0xA2 e) ∙ cond-false _ _ (ne-eqb t 0xA1 x) ∙ ap (λ (m : Number). behindId t m fs) (sym w)
 
-  pub behind-error : (t ≡ 0xA1 → ⊥) → (t ≡ 0xA2 → ⊥) → errorOf i (codedOf fs) ≡ behindId t n fs
+  pub behind-error : (t ≡ 0xA1 → ⊥) → (t ≡ 0xA2 → ⊥) → errorBehind i (codedOf fs) ≡ behindId t n fs
   unfolding behindId
   behind-error x y = cond-false _ _ (ne-eqb t 0xA2 y) ∙ cond-false _ _ (ne-eqb t 0xA1 x) ∙ ap (λ (m : Number). behindId t m fs) (sym w)
 
@@ -90,6 +76,6 @@ module _ (x : List ℕ) where
     pub parse-wrong : makesElement (contentsOf (levels - 1)) id (part x a e) ≡ false → badlyStructured ≡ parse x
     parse-wrong m = parse-not (whole ∙ and-false-right (eqb e (length x)) _ m)
 
-    pub parse-right : e ≡ length x → makesElement (contentsOf (levels - 1)) id (part x a e) ≡ true → byKind id (fields (part x a e)) ≡ parse x
+    pub parse-right : e ≡ length x → makesElement (contentsOf (levels - 1)) id (part x a e) ≡ true → byKind id (fields (partOf x a e)) ≡ parse x
     unfolding parse parseAt
     parse-right h m = ap (parseAt x) (sym w) ∙ cond-true _ _ (whole ∙ and-true (eq-eqb e (length x) h) m)

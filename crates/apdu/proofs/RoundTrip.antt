@@ -1,8 +1,8 @@
 -- What is written reads back, for an Invoke, a Result and an Error, within the octets and levels of an APDU.
-use Prim.Native.Nat.{ℕ, suc, _-_, _^_, _≤_, _<_}
+use Prim.Native.Nat.{ℕ, suc, _+_, _-_, _^_, _≤_, _<_}
 use mathlib.Core.Path.{_≡_, refl, sym, ap, _∙_}
 use mathlib.Core.Bool.{Bool, true, cond}
-use mathlib.Core.List.{List, [], _∷_, _++_, append-nil, map}
+use mathlib.Core.List.{List, [], _∷_, _++_, append-nil}
 use mathlib.Core.Option.{Option, some, none}
 use native.Mathlib.Omega.{arith}
 use lib.ListN.{length, length-append}
@@ -12,15 +12,15 @@ use Rattle.records.specs.Limits.{octets, levels}
 use Rattle.ber.specs.Header.{oneOf}
 use Rattle.ber.specs.Rule.{contentRule}
 use Rattle.ber.specs.Element.{constructed, contentsOf, wellFormed, elementOctets}
-use Rattle.ber.proofs.ElementOctets.{oneOctet, element-octets-length}
+use Rattle.ber.proofs.ElementOctets.{oneOctet, startOf, element-octets-length}
 use Rattle.apdu.specs.declared.Number.{Number}
 use Rattle.apdu.specs.declared.Number.the-variants.{Of, Absent}
 use Rattle.apdu.specs.declared.CodeField.the-variants.{Local}
-use Rattle.apdu.specs.Field.{Field, fields}
-use Rattle.apdu.specs.Parse.{CodedValue, invoke, result, error, numberUnder, coded, codedOf, linked, unlinked, linkedWith, linkedOf, invokeWith, invokeOf, resultWith, resultOf, errorOf, behindId, withId, byKind, parseAt, parse}
+use Rattle.apdu.specs.Field.{Part, partOf, Field}
+use Rattle.apdu.specs.Parse.{CodedValue, invoke, result, error, numberUnder, codedOf, linked, unlinked, linkedWith, linkedOf, invokeWith, invokeBehind, resultWith, resultBehind, errorBehind, behindId, withId, byKind, parseAt, parse}
 use Rattle.apdu.specs.Encode.{integerField, linkedField, bodyField, codedFields, encodeInvoke, encodeResult, encodeError}
-use Rattle.apdu.proofs.FieldLaws.{concat, AllWell, contents-concat, fieldOf, fields-concat, header-alone, part-alone, field-octets, octets-well-formed}
-use Rattle.apdu.proofs.FieldRoundTrip.{NumberFits, ValueFits, valueList, value-well, value-concat, coded-back, integer-under, number-back, id-well, linked-well, id-back, id-under}
+use Rattle.apdu.proofs.FieldLaws.{concat, AllWell, contents-concat, partAt, fieldOf, fieldsOf, fields-concat, header-alone, part-alone, field-octets, octets-well-formed}
+use Rattle.apdu.proofs.FieldRoundTrip.{NumberFits, ValueFits, valueList, value-well, value-concat, lastPart, place-behind, coded-back, integer-under, number-back, id-well, linked-well, id-back, id-under}
 
 -- an identifier of one octet under which all contents are right
 pub record Free (t : ℕ) : Type 0 where
@@ -29,14 +29,14 @@ pub record Free (t : ℕ) : Type 0 where
 
 -- an APDU's fields are those that were written, end to end, inside it
 pub parse-fields : (t : ℕ) (es : List (List ℕ)) → Free t → constructed t ≡ true → AllWell (levels - 1) es → length (elementOctets t (concat es)) ≤ octets
-    → parse (elementOctets t (concat es)) ≡ byKind t (map fieldOf es)
+    → parse (elementOctets t (concat es)) ≡ byKind t (fieldsOf (startOf (concat es)) es)
 unfolding parse parseAt
 parse-fields t es g k f h =
     let c = concat es in
     let n : length c < 2 ^ 32 = omega (arith, element-octets-length t (concat es)) in
     let i : cond (constructed t) (contentsOf 15 c) true ≡ true = ap (λ (b : Bool). cond b (contentsOf 15 c) true) k ∙ contents-concat 15 es f in
     rw (octets-well-formed t c (g .one) n 15 (g .rule c) i, header-alone t c (g .one) n)
-    (ap (λ (l : List ℕ). byKind t (fields l)) (part-alone t c (g .one) n) ∙ ap (byKind t) (fields-concat 15 es f))
+    (ap (byKind t) (fields-concat 15 (partOf (elementOctets t c) (startOf c) (length (elementOctets t c))) es (part-alone t c (g .one) n) f))
 
 -- ---- A1 and A3
 
@@ -55,7 +55,7 @@ coded-well d i Absent c v si sl sc f = (id-well i si d, (id-well (c .0) sc d, va
 coded-well d i (Of l) c v si sl sc f = (id-well i si d, (linked-well l sl d, (id-well (c .0) sc d, value-well (suc d) v f)))
 
 coded-parsed : (t i : ℕ) (l : Number) (c : Code) (v : Option (List ℕ)) → Free t → constructed t ≡ true → i < 2 ^ 32 → NumberFits l → c .0 < 2 ^ 32 → ValueFits (levels - 1) v → length (elementOctets t (codedFields i l c v)) ≤ octets
-    → parse (elementOctets t (codedFields i l c v)) ≡ byKind t (map fieldOf (codedList i l c v))
+    → parse (elementOctets t (codedFields i l c v)) ≡ byKind t (fieldsOf (startOf (concat (codedList i l c v))) (codedList i l c v))
 coded-parsed t i l c v g k si sl sc f h =
     ap (λ (x : List ℕ). parse (elementOctets t x)) (sym (coded-concat i l c v))
     ∙ parse-fields t (codedList i l c v) g k (coded-well 14 i l c v si sl sc f) (rw (coded-concat i l c v) h)
@@ -64,34 +64,56 @@ coded-parsed t i l c v g k si sl sc f h =
 linked-not : (f : Field) (fs : List Field) → f .identifier ≡ 0x02 → linkedOf (f ∷ fs) ≡ linked Absent (f ∷ fs)
 unfolding linkedOf
 linked-not f fs e =
-    ap (λ (t : ℕ). cond (eqb t 0x80) (linkedWith (numberUnder 0x80 (f .identifier) (f .contents)) fs) (cond (eqb t 0x81) (cond (eqb (length (f .contents)) 0) (linked Absent fs) unlinked) (linked Absent (f ∷ fs)))) e
+    ap (λ (t : ℕ). cond (eqb t 0x80) (linkedWith (numberUnder 0x80 (f .identifier) (f .contents .octets)) fs) (cond (eqb t 0x81) (cond (eqb (length (f .contents .octets)) 0) (linked Absent fs) unlinked) (linked Absent (f ∷ fs)))) e
 
-linked-back : (l : ℕ) (fs : List Field) → l < 2 ^ 32 → linkedOf (fieldOf (integerField 0x80 l) ∷ fs) ≡ linked (Of l) fs
+linked-back : (at l : ℕ) (fs : List Field) → l < 2 ^ 32 → linkedOf (fieldOf at (integerField 0x80 l) ∷ fs) ≡ linked (Of l) fs
 unfolding linkedOf linkedWith oneOf
-linked-back l fs s = rw (number-back l 0x80 s refl, integer-under l 0x80 s refl)
+linked-back at l fs s = rw (number-back l 0x80 s refl at, integer-under l 0x80 s refl at)
 
-invoke-fields : (i : ℕ) (l : Number) (c : Code) (v : Option (List ℕ)) → i < 2 ^ 32 → NumberFits l → c .0 < 2 ^ 32 → ValueFits 15 v → byKind 0xA1 (map fieldOf (codedList i l c v)) ≡ invoke i l (Local c) v
-unfolding byKind withId behindId invokeOf invokeWith
-invoke-fields i Absent c v si sl sc f =
-    rw (id-back i si, linked-not (fieldOf (integerField 0x02 (c .0))) (map fieldOf (valueList v)) (id-under (c .0) sc), coded-back 15 c v sc f)
-invoke-fields i (Of l) c v si sl sc f = rw (id-back i si, linked-back l (map fieldOf (integerField 0x02 (c .0) ∷ valueList v)) sl, coded-back 15 c v sc f)
+-- the fields from a place on, up to the end of x
+module _ (x : List ℕ) (at i : ℕ) (c : Code) (v : Option (List ℕ)) (si : i < 2 ^ 32) (sc : c .0 < 2 ^ 32) where
+  invoke-fields : (l : Number) → NumberFits l → at + length (concat (codedList i l c v)) ≡ length x → byKind 0xA1 (fieldsOf at (codedList i l c v)) ≡ invoke i l (Local c) (lastPart x v)
+  unfolding byKind withId behindId invokeBehind invokeWith
+  invoke-fields Absent sl h =
+      let a = at + length (integerField 0x02 i) in
+      rw (id-back i si at, linked-not (fieldOf a (integerField 0x02 (c .0))) (fieldsOf (a + length (integerField 0x02 (c .0))) (valueList v)) (id-under (c .0) sc a))
+      (ap (invokeWith i Absent) (coded-back x a c v sc (place-behind x at (integerField 0x02 i) (concat (integerField 0x02 (c .0) ∷ valueList v)) h)))
+  invoke-fields (Of l) sl h =
+      let a = at + length (integerField 0x02 i) in
+      let b = a + length (integerField 0x80 l) in
+      let fs = integerField 0x02 (c .0) ∷ valueList v in
+      rw (id-back i si at, linked-back a l (fieldsOf b fs) sl)
+      (ap (invokeWith i (Of l)) (coded-back x b c v sc (place-behind x a (integerField 0x80 l) (concat fs) (place-behind x at (integerField 0x02 i) (integerField 0x80 l ++ concat fs) h))))
+
+  error-fields : at + length (concat (codedList i Absent c v)) ≡ length x → byKind 0xA3 (fieldsOf at (codedList i Absent c v)) ≡ error i (Local c) (lastPart x v)
+  unfolding byKind withId behindId errorBehind
+  error-fields h =
+      rw (id-back i si at)
+      (ap (errorBehind i) (coded-back x (at + length (integerField 0x02 i)) c v sc (place-behind x at (integerField 0x02 i) (concat (integerField 0x02 (c .0) ∷ valueList v)) h)))
+
+-- the fields fill the APDU
+coded-end : (t i : ℕ) (l : Number) (c : Code) (v : Option (List ℕ))
+    → startOf (concat (codedList i l c v)) + length (concat (codedList i l c v)) ≡ length (elementOctets t (codedFields i l c v))
+coded-end t i l c v = omega (arith, element-octets-length t (concat (codedList i l c v)), ap (λ (k : List ℕ). length (elementOctets t k)) (coded-concat i l c v))
 
 pub parse-invoke : (i : ℕ) (l : Number) (c : Code) (v : Option (List ℕ)) → i < 2 ^ 32 → NumberFits l → c .0 < 2 ^ 32 → ValueFits (levels - 1) v → length (encodeInvoke i l c v) ≤ octets
-    → parse (encodeInvoke i l c v) ≡ invoke i l (Local c) v
+    → parse (encodeInvoke i l c v) ≡ invoke i l (Local c) (lastPart (encodeInvoke i l c v) v)
 unfolding encodeInvoke oneOf contentRule constructed
 parse-invoke i l c v si sl sc f h =
-    coded-parsed 0xA1 i l c v (record { one = refl; rule = λ _. refl }) refl si sl sc f h ∙ invoke-fields i l c v si sl sc f
+    coded-parsed 0xA1 i l c v (record { one = refl; rule = λ _. refl }) refl si sl sc f h
+    ∙ invoke-fields (elementOctets 0xA1 (codedFields i l c v)) (startOf (concat (codedList i l c v))) i c v si sc l sl (coded-end 0xA1 i l c v)
 
-pub parse-error : (i : ℕ) (c : Code) (v : Option (List ℕ)) → i < 2 ^ 32 → c .0 < 2 ^ 32 → ValueFits (levels - 1) v → length (encodeError i c v) ≤ octets → parse (encodeError i c v) ≡ error i (Local c) v
-unfolding encodeError oneOf contentRule constructed byKind withId behindId errorOf
+pub parse-error : (i : ℕ) (c : Code) (v : Option (List ℕ)) → i < 2 ^ 32 → c .0 < 2 ^ 32 → ValueFits (levels - 1) v → length (encodeError i c v) ≤ octets
+    → parse (encodeError i c v) ≡ error i (Local c) (lastPart (encodeError i c v) v)
+unfolding encodeError oneOf contentRule constructed
 parse-error i c v si sc f h =
     coded-parsed 0xA3 i Absent c v (record { one = refl; rule = λ _. refl }) refl si tt sc f h
-    ∙ rw (id-back i si, coded-back 15 c v sc f)
+    ∙ error-fields (elementOctets 0xA3 (codedFields i Absent c v)) (startOf (concat (codedList i Absent c v))) i c v si sc (coded-end 0xA3 i Absent c v)
 
 -- ---- A2
 
 -- a result's code stands only with its value
-abbrev pub bodyOf : Code → Option (List ℕ) → Option CodedValue
+abbrev pub bodyOf : Code → Option Part → Option CodedValue
 bodyOf c none = none
 bodyOf c (some v) = some (record { code = Local c; value = v })
 
@@ -106,24 +128,30 @@ module _ (c : Code) (v : List ℕ) (s : c .0 < 2 ^ 32) (f : wellFormed 14 v ≡ 
       octets-well-formed 0x30 (integerField 0x02 (c .0) ++ v) refl n 14 refl
       (ap (contentsOf 14) (sym body-concat) ∙ contents-concat 14 (integerField 0x02 (c .0) ∷ v ∷ []) (id-well (c .0) s 13, (f, tt)))
 
-  body-coded : codedOf (fields (integerField 0x02 (c .0) ++ v)) ≡ coded (Local c) (some v)
-  body-coded =
-      ap (λ (l : List ℕ). codedOf (fields l)) (sym body-concat)
-      ∙ ap codedOf (fields-concat 14 (integerField 0x02 (c .0) ∷ v ∷ []) (id-well (c .0) s 13, (f, tt))) ∙ coded-back 14 c (some v) s f
+  body-result : (x : List ℕ) (at i : ℕ) → at + length (elementOctets 0x30 (integerField 0x02 (c .0) ++ v)) ≡ length x
+      → resultBehind i (fieldOf at (elementOctets 0x30 (integerField 0x02 (c .0) ++ v)) ∷ []) ≡ result i (bodyOf c (lastPart x (some v)))
+  unfolding resultBehind resultWith oneOf
+  body-result x at i h =
+      let b = integerField 0x02 (c .0) ++ v in
+      rw (field-octets 0x30 b refl n at)
+      (ap (resultWith i)
+      (ap codedOf (fields-concat 14 (partAt (at + startOf b) b) (integerField 0x02 (c .0) ∷ v ∷ []) (sym body-concat) (id-well (c .0) s 13, (f, tt)))
+      ∙ coded-back x (at + startOf b) c (some v) s (omega (arith, element-octets-length 0x30 b, ap length body-concat))))
 
-  body-result : (i : ℕ) → resultOf i (fieldOf (elementOctets 0x30 (integerField 0x02 (c .0) ++ v)) ∷ []) ≡ result i (bodyOf c (some v))
-  unfolding resultOf resultWith oneOf
-  body-result i = rw (field-octets 0x30 (integerField 0x02 (c .0) ++ v) refl n, body-coded)
-
-pub parse-result : (i : ℕ) (c : Code) (v : Option (List ℕ)) → i < 2 ^ 32 → c .0 < 2 ^ 32 → ValueFits (levels - 2) v → length (encodeResult i c v) ≤ octets → parse (encodeResult i c v) ≡ result i (bodyOf c v)
-unfolding encodeResult bodyField oneOf contentRule constructed byKind withId behindId resultOf
+pub parse-result : (i : ℕ) (c : Code) (v : Option (List ℕ)) → i < 2 ^ 32 → c .0 < 2 ^ 32 → ValueFits (levels - 2) v → length (encodeResult i c v) ≤ octets
+    → parse (encodeResult i c v) ≡ result i (bodyOf c (lastPart (encodeResult i c v) v))
+unfolding encodeResult bodyField oneOf contentRule constructed byKind withId behindId resultBehind
 parse-result i c none si sc f h =
-    parse-fields 0xA2 (integerField 0x02 i ∷ []) (record { one = refl; rule = λ _. refl }) refl (id-well i si 14, tt) h ∙ rw (id-back i si)
+    parse-fields 0xA2 (integerField 0x02 i ∷ []) (record { one = refl; rule = λ _. refl }) refl (id-well i si 14, tt) h ∙ rw (id-back i si (startOf (integerField 0x02 i ++ [])))
 parse-result i c (some v) si sc f h =
-    let b = integerField 0x02 (c .0) ++ v in
-    let n : length b < 2 ^ 32 = omega (arith, element-octets-length 0xA2 (integerField 0x02 i ++ elementOctets 0x30 b), length-append (integerField 0x02 i) (elementOctets 0x30 b), element-octets-length 0x30 b) in
-    let es = integerField 0x02 i ∷ elementOctets 0x30 b ∷ [] in
-    let e : concat es ≡ integerField 0x02 i ++ elementOctets 0x30 b = ap (λ (l : List ℕ). integerField 0x02 i ++ l) (append-nil (elementOctets 0x30 b)) in
+    let b = elementOctets 0x30 (integerField 0x02 (c .0) ++ v) in
+    let m = element-octets-length 0xA2 (integerField 0x02 i ++ b) in
+    let k = length-append (integerField 0x02 i) b in
+    let n : length (integerField 0x02 (c .0) ++ v) < 2 ^ 32 = omega (arith, element-octets-length 0x30 (integerField 0x02 (c .0) ++ v)) in
+    let es = integerField 0x02 i ∷ b ∷ [] in
+    let e : concat es ≡ integerField 0x02 i ++ b = ap (λ (l : List ℕ). integerField 0x02 i ++ l) (append-nil b) in
+    let a = startOf (concat es) in
+    let z : a + length (integerField 0x02 i) + length b ≡ length (elementOctets 0xA2 (integerField 0x02 i ++ b)) = rw e (omega arith) in
     ap (λ (l : List ℕ). parse (elementOctets 0xA2 l)) (sym e)
     ∙ parse-fields 0xA2 es (record { one = refl; rule = λ _. refl }) refl (id-well i si 14, (body-well c v sc f n, tt)) (rw e h)
-    ∙ rw (id-back i si) (body-result c v sc f n i)
+    ∙ rw (id-back i si a) (body-result c v sc f n (elementOctets 0xA2 (integerField 0x02 i ++ b)) (a + length (integerField 0x02 i)) i z)

@@ -3,3 +3,5 @@ pub mod Field
 pub mod Parse
 pub mod Reading
 pub mod Encode
+-- the steps between
+pub mod Steps

@@ -12,19 +12,19 @@ use Rattle.ber.specs.declared.integer.Integer.{Integer}
 use Rattle.ber.specs.declared.integer.Integer.the-variants.{Of as IntegerOf, NoInteger}
 use Rattle.ber.specs.Header.{headerOf}
 use Rattle.ber.specs.Integer.{integerOf}
-use Rattle.ber.specs.Element.{part, wellFormed}
+use Rattle.ber.specs.Element.{wellFormed}
 use Rattle.apdu.specs.declared.Number.{Number}
 use Rattle.apdu.specs.declared.Number.the-variants.{Of, Absent}
 use Rattle.apdu.specs.declared.CodeField.{CodeField}
 use Rattle.apdu.specs.declared.CodeField.the-variants.{Local, Other}
-use Rattle.apdu.specs.Field.{Field, fields}
+use Rattle.apdu.specs.Field.{Part, partOf, Field, fields}
 
--- a code and its value, the whole element's octets
+-- a code and its value, the whole element
 pub record CodedValue : Type 0 where
   pub code : CodeField
-  pub value : List ℕ
+  pub value : Part
 
--- ids are 32-bit patterns; no value and no linked id are none
+-- ids are 32-bit patterns; a value is a part of the lent octets; no value and no linked id are none
 pub data Apdu : Type 0 where
   -- not well formed: general 2
   badlyStructured : Apdu
@@ -33,11 +33,11 @@ pub data Apdu : Type 0 where
   -- fields wrong: general 1, with the id that a Reject to it carries
   mistyped : Number → Apdu
   -- id, linked id, code, value
-  invoke : ℕ → Number → CodeField → Option (List ℕ) → Apdu
+  invoke : ℕ → Number → CodeField → Option Part → Apdu
   -- id, and code with value
   result : ℕ → Option CodedValue → Apdu
   -- id, code, value
-  error : ℕ → CodeField → Option (List ℕ) → Apdu
+  error : ℕ → CodeField → Option Part → Apdu
   -- id, the problem's identifier 80 to 83, the problem
   reject : Number → ℕ → ℕ → Apdu
 
@@ -54,7 +54,7 @@ numberUnder t identifier c = cond (eqb identifier t) (numberOf (integerOf c)) Ab
 
 -- id is 02 with 1 to 4 content octets
 abbrev pub idOf : Field → Number
-idOf f = numberUnder 0x02 (f .identifier) (f .contents)
+idOf f = numberUnder 0x02 (f .identifier) (f .contents .octets)
 
 -- a code is 02 or 06
 unfoldable pub isCode : ℕ → Bool
@@ -68,7 +68,7 @@ codeOf Absent = Other
 -- a code and at most one value, or not
 pub data Coded : Type 0 where
   uncoded : Coded
-  coded : CodeField → Option (List ℕ) → Coded
+  coded : CodeField → Option Part → Coded
 
 -- nothing follows the one value
 unfoldable pub codedWith : CodeField → List Field → Coded
@@ -94,8 +94,8 @@ linkedWith (Of l) fs = linked (Of l) fs
 unfoldable pub linkedOf : List Field → Linked
 linkedOf [] = linked Absent []
 linkedOf (f ∷ fs) =
-    cond (eqb (f .identifier) 0x80) (linkedWith (numberUnder 0x80 (f .identifier) (f .contents)) fs)
-    (cond (eqb (f .identifier) 0x81) (cond (eqb (length (f .contents)) 0) (linked Absent fs) unlinked)
+    cond (eqb (f .identifier) 0x80) (linkedWith (numberUnder 0x80 (f .identifier) (f .contents .octets)) fs)
+    (cond (eqb (f .identifier) 0x81) (cond (eqb (length (f .contents .octets)) 0) (linked Absent fs) unlinked)
     (linked Absent (f ∷ fs)))
 
 -- ---- A1 Invoke, behind the id: optional linked id; code; at most one value
@@ -104,9 +104,9 @@ unfoldable pub invokeWith : ℕ → Number → Coded → Apdu
 invokeWith i l uncoded = mistyped (Of i)
 invokeWith i l (coded c v) = invoke i l c v
 
-unfoldable pub invokeOf : ℕ → Linked → Apdu
-invokeOf i unlinked = mistyped (Of i)
-invokeOf i (linked l fs) = invokeWith i l (codedOf fs)
+unfoldable pub invokeBehind : ℕ → Linked → Apdu
+invokeBehind i unlinked = mistyped (Of i)
+invokeBehind i (linked l fs) = invokeWith i l (codedOf fs)
 
 -- ---- A2 ReturnResult, behind the id: nothing, or 30 holding code and exactly one value
 
@@ -115,16 +115,16 @@ resultWith i uncoded = mistyped (Of i)
 resultWith i (coded c none) = mistyped (Of i)
 resultWith i (coded c (some v)) = result i (some (record { code = c; value = v }))
 
-unfoldable pub resultOf : ℕ → List Field → Apdu
-resultOf i [] = result i none
-resultOf i (f ∷ []) = cond (eqb (f .identifier) 0x30) (resultWith i (codedOf (fields (f .contents)))) (mistyped (Of i))
-resultOf i (f ∷ g ∷ fs) = mistyped (Of i)
+unfoldable pub resultBehind : ℕ → List Field → Apdu
+resultBehind i [] = result i none
+resultBehind i (f ∷ []) = cond (eqb (f .identifier) 0x30) (resultWith i (codedOf (fields (f .contents)))) (mistyped (Of i))
+resultBehind i (f ∷ g ∷ fs) = mistyped (Of i)
 
 -- ---- A3 ReturnError, behind the id: code; at most one value
 
-unfoldable pub errorOf : ℕ → Coded → Apdu
-errorOf i uncoded = mistyped (Of i)
-errorOf i (coded c v) = error i c v
+unfoldable pub errorBehind : ℕ → Coded → Apdu
+errorBehind i uncoded = mistyped (Of i)
+errorBehind i (coded c v) = error i c v
 
 -- ---- A4 Reject: id or 05 00; a problem
 
@@ -149,7 +149,7 @@ rejectWith n identifier kind c =
 -- nothing follows the one problem
 unfoldable pub rejectBehind : Number → ℕ → List Field → Apdu
 rejectBehind n identifier [] = mistyped Absent
-rejectBehind n identifier (g ∷ []) = rejectWith n identifier (g .identifier) (g .contents)
+rejectBehind n identifier (g ∷ []) = rejectWith n identifier (g .identifier) (g .contents .octets)
 rejectBehind n identifier (g ∷ h ∷ fs) = mistyped Absent
 
 unfoldable pub rejectOf : List Field → Apdu
@@ -162,7 +162,7 @@ rejectOf (f ∷ fs) = rejectBehind (idOf f) (f .identifier) fs
 unfoldable pub behindId : ℕ → Number → List Field → Apdu
 behindId t Absent fs = mistyped Absent
 behindId t (Of i) fs =
-    cond (eqb t 0xA1) (invokeOf i (linkedOf fs)) (cond (eqb t 0xA2) (resultOf i fs) (errorOf i (codedOf fs)))
+    cond (eqb t 0xA1) (invokeBehind i (linkedOf fs)) (cond (eqb t 0xA2) (resultBehind i fs) (errorBehind i (codedOf fs)))
 
 -- fields wrong in A1 to A3 carry the id if the first element inside is a right id
 unfoldable pub withId : ℕ → List Field → Apdu
@@ -176,7 +176,7 @@ byKind t fs = cond (leb 0xA1 t && leb t 0xA3) (withId t fs) (cond (eqb t 0xA4) (
 -- the element of this header: its fields, by its first octet
 unfoldable pub parseAt : List ℕ → Header → Apdu
 parseAt x NoHeader = badlyStructured
-parseAt x (At id a e) = byKind id (fields (part x a e))
+parseAt x (At id a e) = byKind id (fields (partOf x a e))
 
 -- an APDU is one element filling the input
 unfoldable pub parse : List ℕ → Apdu

@@ -2,12 +2,27 @@
 pub mod encode;
 mod field;
 pub mod parse;
+mod reject;
 
 use records::Code;
+use records::OwnId;
+use records::PeerId;
 
 // A number that may be missing: an id, or a linked id.
 pub enum Number {
     Of(u32),
+    Absent,
+}
+
+// A linked id of a received Invoke names an invocation that this end made.
+pub enum OwnLink {
+    To(OwnId),
+    Absent,
+}
+
+// A linked id of an invoke request names an invocation that this end received.
+pub enum PeerLink {
+    To(PeerId),
     Absent,
 }
 
@@ -35,29 +50,44 @@ pub enum Body {
     Absent,
 }
 
-// What a received APDU says, with places in the lent octets.
+// What a received APDU says, with places in the lent octets and each id by its side.
 pub enum Parsed {
     BadlyStructured,
     Unrecognized,
     Mistyped(Number),
     Invoke {
-        id: u32,
-        linked: Number,
+        id: PeerId,
+        linked: OwnLink,
         code: CodeField,
         value: Value,
     },
     Result {
-        id: u32,
+        id: OwnId,
         body: Body,
     },
     Error {
-        id: u32,
+        id: OwnId,
         code: CodeField,
         value: Value,
     },
-    Reject {
+    // 81: of an invocation that this end made.
+    InvokeReject {
+        id: OwnId,
+        problem: u8,
+    },
+    // 82: of a result that this end gave.
+    ResultReject {
+        id: PeerId,
+        problem: u8,
+    },
+    // 83: of an error that this end gave.
+    ErrorReject {
+        id: PeerId,
+        problem: u8,
+    },
+    // 80: the id has no side, and 05 00 may stand in its place.
+    GeneralReject {
         id: Number,
-        kind: u8,
         problem: u8,
     },
 }

@@ -9,30 +9,32 @@ use crate::field::Linked;
 use crate::field::between;
 use crate::field::code_and_value;
 use crate::field::field_at;
-use crate::field::id_allowed;
-use crate::field::is_problem;
 use crate::field::linked_id;
 use crate::field::number_under;
+use crate::reject::reject;
 use ber::element::is_element;
 use ber::header::Header;
 use ber::header::header_of;
+use records::OwnId;
+use records::PeerId;
 use records::State;
 ghost use mathlib.Core.Path.{_≡_};
 ghost use mathlib.Core.List.{List};
 ghost use Prim.Native.Nat.{ℕ};
 ghost use Rattle.ber.specs.Element.{part};
-ghost use Rattle.apdu.specs.Field.{fields};
-ghost use Rattle.apdu.specs.Parse.{codedOf, linkedOf, invokeOf, resultWith, resultOf, errorOf, rejectWith, rejectBehind, rejectOf, behindId, withId, byKind, parse};
-ghost use Rattle.apdu.specs.Reading.{readSpan, readCoded, readParsed};
+ghost use Rattle.apdu.specs.Field.{partOf, fields};
+ghost use Rattle.apdu.specs.Parse.{codedOf, linkedOf, invokeBehind, resultWith, resultBehind, errorBehind, behindId, withId, byKind, parse};
+ghost use Rattle.apdu.specs.Reading.{readParsed};
+ghost use Rattle.apdu.specs.Steps.{readCoded};
 
 // A1, behind the id.
-fn invoke(s: &[u8], id: u32, at: usize, end: usize) -> Parsed
-    ensures { λ r. ⌜ readParsed (now (s .entry)) r ≡ invokeOf id (linkedOf (fields (part (now (s .entry)) at end))) ⌝ }
+fn invoke(s: &[u8], id: PeerId, at: usize, end: usize) -> Parsed
+    ensures { λ r. ⌜ readParsed (now (s .entry)) r ≡ invokeBehind (id .0) (linkedOf (fields (partOf (now (s .entry)) at end))) ⌝ }
 {
     match linked_id(s, at, end) {
-        Linked::Wrong => Parsed::Mistyped(Number::Of(id)),
+        Linked::Wrong => Parsed::Mistyped(Number::Of(id.0)),
         Linked::To { linked, next } => match code_and_value(s, next, end) {
-            Coded::Wrong => Parsed::Mistyped(Number::Of(id)),
+            Coded::Wrong => Parsed::Mistyped(Number::Of(id.0)),
             Coded::Is { code, value } => Parsed::Invoke {
                 id,
                 linked,
@@ -44,13 +46,13 @@ fn invoke(s: &[u8], id: u32, at: usize, end: usize) -> Parsed
 }
 
 // What 30 holds: a code and exactly one value.
-fn result_with(id: u32, c: Coded) -> Parsed
-    ensures { λ r. ⌜ ((s : List ℕ) → readParsed s r ≡ resultWith id (readCoded s c)) ⌝ }
+fn result_with(id: OwnId, c: Coded) -> Parsed
+    ensures { λ r. ⌜ ((s : List ℕ) → readParsed s r ≡ resultWith (id .0) (readCoded s c)) ⌝ }
 {
     match c {
-        Coded::Wrong => Parsed::Mistyped(Number::Of(id)),
+        Coded::Wrong => Parsed::Mistyped(Number::Of(id.0)),
         Coded::Is { code, value } => match value {
-            Value::Absent => Parsed::Mistyped(Number::Of(id)),
+            Value::Absent => Parsed::Mistyped(Number::Of(id.0)),
             Value::At(span) => Parsed::Result {
                 id,
                 body: Body::Of { code, value: span },
@@ -60,8 +62,8 @@ fn result_with(id: u32, c: Coded) -> Parsed
 }
 
 // A2, behind the id.
-fn result(s: &[u8], id: u32, at: usize, end: usize) -> Parsed
-    ensures { λ r. ⌜ readParsed (now (s .entry)) r ≡ resultOf id (fields (part (now (s .entry)) at end)) ⌝ }
+fn result(s: &[u8], id: OwnId, at: usize, end: usize) -> Parsed
+    ensures { λ r. ⌜ readParsed (now (s .entry)) r ≡ resultBehind (id .0) (fields (partOf (now (s .entry)) at end)) ⌝ }
 {
     match field_at(s, at, end) {
         Header::NoHeader => Parsed::Result {
@@ -74,7 +76,7 @@ fn result(s: &[u8], id: u32, at: usize, end: usize) -> Parsed
             end: next,
         } => {
             if identifier != 0x30 {
-                return Parsed::Mistyped(Number::Of(id));
+                return Parsed::Mistyped(Number::Of(id.0));
             }
             match field_at(s, next, end) {
                 Header::NoHeader => result_with(id, code_and_value(s, start, next)),
@@ -82,95 +84,42 @@ fn result(s: &[u8], id: u32, at: usize, end: usize) -> Parsed
                     id: _,
                     start: _,
                     end: _,
-                } => Parsed::Mistyped(Number::Of(id)),
+                } => Parsed::Mistyped(Number::Of(id.0)),
             }
         }
     }
 }
 
 // A3, behind the id.
-fn error(s: &[u8], id: u32, at: usize, end: usize) -> Parsed
-    ensures { λ r. ⌜ readParsed (now (s .entry)) r ≡ errorOf id (codedOf (fields (part (now (s .entry)) at end))) ⌝ }
+fn error(s: &[u8], id: OwnId, at: usize, end: usize) -> Parsed
+    ensures { λ r. ⌜ readParsed (now (s .entry)) r ≡ errorBehind (id .0) (codedOf (fields (partOf (now (s .entry)) at end))) ⌝ }
 {
     match code_and_value(s, at, end) {
-        Coded::Wrong => Parsed::Mistyped(Number::Of(id)),
+        Coded::Wrong => Parsed::Mistyped(Number::Of(id.0)),
         Coded::Is { code, value } => Parsed::Error { id, code, value },
-    }
-}
-
-// A4: an id, or what stands in its place under its identifier, and a problem.
-fn reject_with(n: Number, identifier: u8, kind: u8, c: &[u8]) -> Parsed
-    ensures { λ r. ⌜ ((s : List ℕ) → readParsed s r ≡ rejectWith n identifier kind (now (c .entry))) ⌝ }
-{
-    if is_problem(kind, c) {
-        if id_allowed(n, identifier, kind) {
-            return Parsed::Reject {
-                id: n,
-                kind,
-                problem: c[0],
-            };
-        }
-    }
-    Parsed::Mistyped(Number::Absent)
-}
-
-// A4, behind the id or what stands in its place.
-fn reject_behind(s: &[u8], n: Number, identifier: u8, at: usize, end: usize) -> Parsed
-    ensures { λ r. ⌜ readParsed (now (s .entry)) r ≡ rejectBehind n identifier (fields (part (now (s .entry)) at end)) ⌝ }
-{
-    match field_at(s, at, end) {
-        Header::NoHeader => Parsed::Mistyped(Number::Absent),
-        Header::At {
-            id: kind,
-            start,
-            end: next,
-        } => match field_at(s, next, end) {
-            Header::NoHeader => reject_with(n, identifier, kind, between(s, start, next)),
-            Header::At {
-                id: _,
-                start: _,
-                end: _,
-            } => Parsed::Mistyped(Number::Absent),
-        },
-    }
-}
-
-fn reject(s: &[u8], at: usize, end: usize) -> Parsed
-    ensures { λ r. ⌜ readParsed (now (s .entry)) r ≡ rejectOf (fields (part (now (s .entry)) at end)) ⌝ }
-{
-    match field_at(s, at, end) {
-        Header::NoHeader => Parsed::Mistyped(Number::Absent),
-        Header::At {
-            id: identifier,
-            start,
-            end: next,
-        } => {
-            let n = number_under(0x02, identifier, between(s, start, next));
-            reject_behind(s, n, identifier, next, end)
-        }
     }
 }
 
 // A1 to A3, behind what should be their id.
 fn behind_id(s: &[u8], first: u8, n: Number, at: usize, end: usize) -> Parsed
-    ensures { λ r. ⌜ readParsed (now (s .entry)) r ≡ behindId first n (fields (part (now (s .entry)) at end)) ⌝ }
+    ensures { λ r. ⌜ readParsed (now (s .entry)) r ≡ behindId first n (fields (partOf (now (s .entry)) at end)) ⌝ }
 {
     match n {
         Number::Absent => Parsed::Mistyped(Number::Absent),
         Number::Of(id) => {
             if first == 0xA1 {
-                return invoke(s, id, at, end);
+                return invoke(s, PeerId(id), at, end);
             }
             if first == 0xA2 {
-                return result(s, id, at, end);
+                return result(s, OwnId(id), at, end);
             }
-            error(s, id, at, end)
+            error(s, OwnId(id), at, end)
         }
     }
 }
 
 fn with_id(s: &[u8], first: u8, at: usize, end: usize) -> Parsed
-    ensures { λ r. ⌜ readParsed (now (s .entry)) r ≡ withId first (fields (part (now (s .entry)) at end)) ⌝ }
+    ensures { λ r. ⌜ readParsed (now (s .entry)) r ≡ withId first (fields (partOf (now (s .entry)) at end)) ⌝ }
 {
     match field_at(s, at, end) {
         Header::NoHeader => Parsed::Mistyped(Number::Absent),
@@ -186,7 +135,7 @@ fn with_id(s: &[u8], first: u8, at: usize, end: usize) -> Parsed
 }
 
 fn by_kind(s: &[u8], first: u8, at: usize, end: usize) -> Parsed
-    ensures { λ r. ⌜ readParsed (now (s .entry)) r ≡ byKind first (fields (part (now (s .entry)) at end)) ⌝ }
+    ensures { λ r. ⌜ readParsed (now (s .entry)) r ≡ byKind first (fields (partOf (now (s .entry)) at end)) ⌝ }
 {
     if first < 0xA1 {
         return Parsed::Unrecognized;
@@ -220,7 +169,7 @@ pub fn parse(apdu: &[u8]) -> Parsed
 
 // The octets of a span, as far as there are any.
 pub fn octets_of(s: &[u8], span: Span) -> &[u8]
-    ensures { λ r. ⌜ now r ≡ readSpan (now (s .entry)) span ⌝ }
+    ensures { λ r. ⌜ now r ≡ part (now (s .entry)) (span .at) (span .end) ⌝ }
 {
     between(s, span.at, span.end)
 }

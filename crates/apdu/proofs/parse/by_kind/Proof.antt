@@ -11,14 +11,8 @@ returns : tie.Need-returns
 unfolding readParsed
 returns c = kind-low _ _ (omega arith)
 
-with-id-requires : tie.Need-with-id-requires
-with-id-requires c κs = search needs
-
 returns-2 : tie.Need-returns-2
 returns-2 c = c .with-id .ensures ∙ kind-with _ _ (omega arith) (omega arith)
-
-reject-requires : tie.Need-reject-requires
-reject-requires c κs = search needs
 
 returns-3 : tie.Need-returns-3
 returns-3 c = c .reject .ensures ∙ kind-reject _ _ (omega arith)
@@ -28,5 +22,4 @@ unfolding readParsed
 returns-4 c = kind-high _ _ (omega arith)
 
 pub by-kind-spec : {M : Type 1} → statement M
-by-kind-spec =
-    tie.close (tie.spec returns with-id-requires returns-2 reject-requires returns-3 returns-4)
+by-kind-spec = tie.close (tie.spec returns (λ c κs. search needs) returns-2 (λ c κs. search needs) returns-3 returns-4)
