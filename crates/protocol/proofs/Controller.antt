@@ -7,27 +7,26 @@ use mathlib.Core.Logic.{_⊎_, inl, inr}
 use mathlib.Core.Option.{some, none}
 use native.Mathlib.Omega.{arith}
 use lib.Dec.{eqb}
-use borrow.Author.Tests.{not-false}
 use Rattle.records.specs.declared.Record.{Record}
 use Rattle.records.specs.declared.State.{State}
 use Rattle.records.specs.Records.{member}
 use Rattle.records.specs.State.{retireOwn, retirePeer}
 use Rattle.records.proofs.Soundness.{view-retired}
-use Rattle.optable.specs.Lookup.{operationOf, resultOf, errorOf, parameterOf}
-use Rattle.optable.specs.Value.{valueRight}
 use Rattle.apdu.specs.declared.Number.the-variants.{Of, Absent}
 use Rattle.apdu.specs.Parse.{Apdu, badlyStructured, unrecognized, mistyped, parse, invoke as Invoke, result as Result, error as Error, reject as Reject}
-use Rattle.ber.specs.Element.{given}
+use Rattle.base.specs.Lists.{nonEmpty}
 use Rattle.apdu.specs.Encode.{encodeInvoke, encodeError, encodeReject}
 use Rattle.apdu.proofs.FirstOctet.{first-invoke, first-reject}
+use Rattle.apdu.proofs.FieldRoundTrip.{lastPart, last-octets}
 use Rattle.apdu.proofs.RoundTrip.{parse-result, parse-error}
 use Rattle.protocol.specs.Call.{own, peer, Call, receive, invoke, result, error, reject, forget, Answer, accepted}
-use Rattle.protocol.specs.Check.{Check, answer, codeIn, isSilent, peerRecords, withinLimits}
+use Rattle.protocol.specs.Check.{Check, answer, codeIn, isSilent, peerRecords, inApdu, inBody}
 use Rattle.protocol.specs.Receive.{fieldCode, fault, invokeChecks, resultChecks, errorChecks, receiveApdu}
-use Rattle.protocol.specs.Perform.{laterChecks, checks, done, resultApdu}
+use Rattle.protocol.specs.Perform.{checks, done, resultApdu}
 use Rattle.protocol.specs.Book.{lastCode, kiosk, controller, at, aResult, anError, Given, wired, Answered, World, hearingOf, wiring, after}
 use Rattle.protocol.specs.Demand3.{Small, InRange, Carried}
 use Rattle.protocol.proofs.Checks.{Pass, settle}
+use Rattle.protocol.proofs.Facts.{result-facts, error-facts, arrived-invoke}
 use Rattle.protocol.proofs.Ids.{in-code, in-last, in-member, one-code}
 use Rattle.protocol.proofs.Steady.{Steady}
 use Rattle.protocol.proofs.Written.{limits-size, limits-value, peer-with, peer-beside}
@@ -61,7 +60,7 @@ module _ (O N : List ℕ) where
 
   kept-in : (w : World) (x : List ℕ) (room : ℕ) (p : Apdu) → parse x ≡ p → In (wired kiosk x) (w .book .wire) → Steady N (w .controller) → Kept N w
       → Kept N (after O w (at controller (receive x room)) (receiveApdu N (w .controller) x p))
-  unfolding receiveApdu invokeChecks
+  unfolding receiveApdu
   kept-in w x room badlyStructured e m s k = kept-refused O N w controller (receive x room) (fault x 2 Absent) k
   kept-in w x room unrecognized e m s k = kept-refused O N w controller (receive x room) (fault x 0 Absent) k
   kept-in w x room (mistyped i) e m s k = kept-refused O N w controller (receive x room) (fault x 1 i) k
@@ -69,7 +68,7 @@ module _ (O N : List ℕ) where
       settled w x room _ e k (invokeChecks N (w .controller) i l c v) _
       (λ p. kept-accepted w x room _ e k _
       (subst (λ (q : List Record). Known q (w .book .heard ++ (record { id = i; code = fieldCode c } ∷ [])) (w .book .asked))
-      (sym (peer-with N (w .controller) i (fieldCode c) s (p .1 .1 .1 .1 .1 .1 .0)))
+      (sym (peer-with N (w .controller) i (fieldCode c) s (arrived-invoke N (w .controller) i l c v p .vacant)))
       (known-heard (record { id = i; code = fieldCode c }) (isSilent N (fieldCode c)) (k .spoken x m i l c v e) (k .known)))
       (λ f n. told-more (record { id = i; code = fieldCode c }) (k .told f n)))
   kept-in w x room (Result i b) e m s k = settled w x room _ e k (resultChecks N (w .controller) i b) _ (λ _. kept-accepted w x room _ e k _ (k .known) (k .told))
@@ -124,43 +123,49 @@ module _ (O N : List ℕ) where
 
   pub kept-controller : (w : World) (c : Call) → InRange c → Carried (w .book .wire) controller c → Steady N (w .controller) → Kept N w
       → Pass (checks N (w .controller) c) → Kept N (after O w (at controller c) (done N (w .controller) c))
-  unfolding laterChecks done
+  unfolding done
   kept-controller w (receive x room) h m s k p = kept-in w x room (parse x) refl m s k
   kept-controller w (invoke i c l v room) h m s k p =
-      let e = first-invoke i c (given v) l in
-      kept-other w _ (encodeInvoke i l c (given v)) (omega arith, omega arith)
+      let e = first-invoke i c (nonEmpty v) l in
+      kept-other w _ (encodeInvoke i l c (nonEmpty v)) (omega arith, omega arith)
       (subst (λ (q : List Record). Known q (w .book .heard) (w .book .asked)) (sym (peer-beside N (w .controller) i c)) (k .known)) k
   kept-controller w (result i v room) h m s k p =
-      let has = not-false (member i (peerRecords (w .controller))) (p .1 .1 .0) in
-      let lim = not-false (withinLimits 2 (given v) (resultApdu (w .controller) i v)) (p .1 .1 .1 .1 .1 .1 .0) in
+      let f = result-facts N (w .controller) i v room p in
+      let has = f .live in
+      let lim = f .sendable .within in
       let same = same-last w i k has in
-      kept-given w i k has (record { id = i; operation = lastCode i (w .book .heard); kind = aResult; error = none; value = given v }) (resultApdu (w .controller) i v)
+      kept-given w i k has (record { id = i; operation = lastCode i (w .book .heard); kind = aResult; error = none; value = nonEmpty v }) (resultApdu (w .controller) i v)
       (record {
-        size = limits-size 2 (given v) (resultApdu (w .controller) i v) lim;
+        size = limits-size inBody (nonEmpty v) (resultApdu (w .controller) i v) lim;
         from = last-heard w i k has;
         says = inl (record {
           kind = refl;
           error = refl;
-          reads = rw (← same) (parse-result i (codeIn (peerRecords (w .controller)) i) (given v) h (small-code w i k has) (limits-value 2 (given v) (resultApdu (w .controller) i v) lim) (limits-size 2 (given v) (resultApdu (w .controller) i v) lim));
-          class = rw (← same) (p .1 .1 .1 .0);
-          right = rw (← same) (not-false (valueRight (resultOf (operationOf N (codeIn (peerRecords (w .controller)) i))) (given v)) (p .1 .1 .1 .1 .1 .0));
+          shown = lastPart (resultApdu (w .controller) i v) (nonEmpty v);
+          octets = last-octets (resultApdu (w .controller) i v) (nonEmpty v);
+          reads = rw (← same) (parse-result i (codeIn (peerRecords (w .controller)) i) (nonEmpty v) h (small-code w i k has) (limits-value inBody (nonEmpty v) (resultApdu (w .controller) i v) lim) (limits-size inBody (nonEmpty v) (resultApdu (w .controller) i v) lim));
+          class = rw (← same) (f .class);
+          right = rw (← same) (f .right);
         });
       })
   kept-controller w (error i e v room) h m s k p =
-      let has = not-false (member i (peerRecords (w .controller))) (p .1 .1 .0) in
-      let lim = not-false (withinLimits 1 (given v) (encodeError i e (given v))) (p .1 .1 .1 .1 .1 .1 .1 .0) in
+      let f = error-facts N (w .controller) i v room e p in
+      let has = f .live in
+      let lim = f .sendable .within in
       let same = same-last w i k has in
-      kept-given w i k has (record { id = i; operation = lastCode i (w .book .heard); kind = anError; error = some e; value = given v }) (encodeError i e (given v))
+      kept-given w i k has (record { id = i; operation = lastCode i (w .book .heard); kind = anError; error = some e; value = nonEmpty v }) (encodeError i e (nonEmpty v))
       (record {
-        size = limits-size 1 (given v) (encodeError i e (given v)) lim;
+        size = limits-size inApdu (nonEmpty v) (encodeError i e (nonEmpty v)) lim;
         from = last-heard w i k has;
         says = inr (record {
           kind = refl;
           code = e;
           error = refl;
-          reads = parse-error i e (given v) (h .0) (h .1) (limits-value 1 (given v) (encodeError i e (given v)) lim) (limits-size 1 (given v) (encodeError i e (given v)) lim);
-          class = rw (← same) (p .1 .1 .1 .0);
-          right = not-false (valueRight (parameterOf (errorOf N e)) (given v)) (p .1 .1 .1 .1 .1 .1 .0);
+          shown = lastPart (encodeError i e (nonEmpty v)) (nonEmpty v);
+          octets = last-octets (encodeError i e (nonEmpty v)) (nonEmpty v);
+          reads = parse-error i e (nonEmpty v) (h .0) (h .1) (limits-value inApdu (nonEmpty v) (encodeError i e (nonEmpty v)) lim) (limits-size inApdu (nonEmpty v) (encodeError i e (nonEmpty v)) lim);
+          class = rw (← same) (f .class);
+          right = f .right;
         });
       })
   kept-controller w (reject i q room) h m s k p =

@@ -15,6 +15,7 @@ use Rattle.optable.specs.Value.{valueRight}
 use Rattle.apdu.specs.declared.Number.{Number}
 use Rattle.apdu.specs.declared.CodeField.{CodeField}
 use Rattle.apdu.specs.declared.CodeField.the-variants.{Local}
+use Rattle.apdu.specs.Field.{Part, octetsOf}
 use Rattle.apdu.specs.Parse.{Apdu, parse, invoke as Invoke, result as Result, error as Error}
 use Rattle.apdu.proofs.RoundTrip.{bodyOf}
 use Rattle.protocol.specs.Check.{classIn, isClass, ownRecords, peerRecords}
@@ -38,7 +39,7 @@ pub record Ours (owns : List Record) (live : List ℕ) (asked : List Record) (sh
 
 -- each Invoke on the wire from the kiosk was asked
 abbrev pub Spoken : List Wired → List Record → Type 0
-Spoken wire asked = (x : List ℕ) → In (wired kiosk x) wire → (i : ℕ) (l : Number) (c : CodeField) (v : Option (List ℕ)) → parse x ≡ Invoke i l c v
+Spoken wire asked = (x : List ℕ) → In (wired kiosk x) wire → (i : ℕ) (l : Number) (c : CodeField) (v : Option Part) → parse x ≡ Invoke i l c v
     → In (record { id = i; code = fieldCode c }) asked
 
 -- the controller's peer records were heard, and what was heard was asked
@@ -57,7 +58,9 @@ Sent wire answers = (x : List ℕ) → In (wired controller x) wire → ((e : An
 pub record ToldResult (N : List ℕ) (p : Apdu) (g : Given) : Type 0 where
   pub kind : g .kind ≡ aResult
   pub error : _≡_ {A = Option Code} (g .error) none
-  pub reads : p ≡ Result (g .id) (bodyOf (g .operation) (g .value))
+  pub shown : Option Part
+  pub octets : octetsOf shown ≡ g .value
+  pub reads : p ≡ Result (g .id) (bodyOf (g .operation) shown)
   pub class : isClass 3 5 (classIn N (g .operation)) ≡ false
   pub right : valueRight (resultOf (operationOf N (g .operation))) (g .value) ≡ true
 
@@ -65,7 +68,9 @@ pub record ToldError (N : List ℕ) (p : Apdu) (g : Given) : Type 0 where
   pub kind : g .kind ≡ anError
   pub code : Code
   pub error : g .error ≡ some code
-  pub reads : p ≡ Error (g .id) (Local code) (g .value)
+  pub shown : Option Part
+  pub octets : octetsOf shown ≡ g .value
+  pub reads : p ≡ Error (g .id) (Local code) shown
   pub class : isClass 4 5 (classIn N (g .operation)) ≡ false
   pub right : valueRight (parameterOf (errorOf N code)) (g .value) ≡ true
 

@@ -8,28 +8,29 @@ use mathlib.Core.Option.{Option, some}
 use native.Mathlib.Omega.{arith}
 use lib.ListN.{getD}
 use lib.Dec.{eqb}
-use borrow.Author.Tests.{not-false}
 use Rattle.records.specs.declared.Code.{Code}
 use Rattle.records.specs.declared.Record.{Record}
 use Rattle.records.specs.declared.State.{State}
-use Rattle.records.specs.Records.{member, without}
+use Rattle.records.specs.Records.{without}
 use Rattle.records.specs.State.{retireOwn}
 use Rattle.records.proofs.Soundness.{view-retired}
 use Rattle.apdu.specs.declared.Number.{Number}
 use Rattle.apdu.specs.declared.Number.the-variants.{Of, Absent}
 use Rattle.apdu.specs.declared.CodeField.the-variants.{Local}
+use Rattle.apdu.specs.Field.{Part}
 use Rattle.apdu.specs.Parse.{Apdu, badlyStructured, unrecognized, mistyped, parse, invoke as Invoke, result as Result, error as Error, reject as Reject}
-use Rattle.ber.specs.Element.{given}
+use Rattle.base.specs.Lists.{nonEmpty}
 use Rattle.apdu.specs.Encode.{encodeInvoke, encodeError, encodeReject}
 use Rattle.apdu.proofs.FirstOctet.{first-result, first-error, first-reject}
 use Rattle.apdu.proofs.RoundTrip.{parse-invoke}
 use Rattle.protocol.specs.Call.{own, peer, Indication, invoked, resulted, erred, rejectedU, rejectedP, Call, receive, invoke, result, error, reject, forget, Refusal, rejectWritten, Answer, accepted, refused}
-use Rattle.protocol.specs.Check.{Check, answer, codeIn, ownRecords, peerRecords, isSilent, withinLimits}
+use Rattle.protocol.specs.Check.{Check, answer, codeIn, ownRecords, peerRecords, isSilent, inApdu}
 use Rattle.protocol.specs.Receive.{fieldCode, fault, invokeChecks, resultChecks, errorChecks, withPeer, retiredBy, rejection, receiveApdu}
-use Rattle.protocol.specs.Perform.{laterChecks, checks, done, resultApdu}
+use Rattle.protocol.specs.Perform.{checks, done, resultApdu}
 use Rattle.protocol.specs.Book.{idsOf, among, leaving, leavingBy, End, kiosk, controller, at, Wired, wired, wiring, World, showing, shownBy, after}
 use Rattle.protocol.specs.Demand3.{InRange}
 use Rattle.protocol.proofs.Checks.{Pass, settle}
+use Rattle.protocol.proofs.Facts.{invoke-facts, arrived-result, arrived-error}
 use Rattle.protocol.proofs.Steady.{Steady}
 use Rattle.protocol.proofs.Written.{refusal-first, limits-size, limits-value, number-fits, own-with, own-beside}
 use Rattle.protocol.proofs.Invariant.{Ours, Spoken, Kept}
@@ -85,7 +86,7 @@ module _ (O N : List ℕ) where
     settled cs a f = settle (λ b. Kept N (after O w (at kiosk (receive x room)) b)) cs a (λ r. kept-refused w kiosk (receive x room) r k) f
 
   kept-in : (w : World) (x : List ℕ) (room : ℕ) (p : Apdu) → parse x ≡ p → Kept N w → Kept N (after O w (at kiosk (receive x room)) (receiveApdu O (w .kiosk) x p))
-  unfolding receiveApdu resultChecks errorChecks
+  unfolding receiveApdu
   kept-in w x room badlyStructured e k = kept-refused w kiosk (receive x room) (fault x 2 Absent) k
   kept-in w x room unrecognized e k = kept-refused w kiosk (receive x room) (fault x 0 Absent) k
   kept-in w x room (mistyped i) e k = kept-refused w kiosk (receive x room) (fault x 1 i) k
@@ -94,10 +95,10 @@ module _ (O N : List ℕ) where
       (λ _. kept-accepted w x room _ e k (invoked i l (fieldCode c) v) (withPeer O (w .kiosk) i (fieldCode c)) (subst (λ (m : List Record). Ours m (w .book .live) (w .book .asked) (w .shown)) (sym (own-beside O (w .kiosk) i (fieldCode c))) (k .ours)))
   kept-in w x room (Result i b) e k =
       settled w x room _ e k (resultChecks O (w .kiosk) i b) _
-      (λ p. kept-accepted w x room _ e k (resulted i b (codeIn (ownRecords (w .kiosk)) i)) (retireOwn (w .kiosk) (record { 0 = i })) (own-retired w x room _ e k i (ours-show i (not-false (member i (ownRecords (w .kiosk))) (p .0)) (k .ours))))
+      (λ p. kept-accepted w x room _ e k (resulted i b (codeIn (ownRecords (w .kiosk)) i)) (retireOwn (w .kiosk) (record { 0 = i })) (own-retired w x room _ e k i (ours-show i (arrived-result O (w .kiosk) i b p) (k .ours))))
   kept-in w x room (Error i d v) e k =
       settled w x room _ e k (errorChecks O (w .kiosk) i d v) _
-      (λ p. kept-accepted w x room _ e k (erred i (fieldCode d) v (codeIn (ownRecords (w .kiosk)) i)) (retireOwn (w .kiosk) (record { 0 = i })) (own-retired w x room _ e k i (ours-show i (not-false (member i (ownRecords (w .kiosk))) (p .0)) (k .ours))))
+      (λ p. kept-accepted w x room _ e k (erred i (fieldCode d) v (codeIn (ownRecords (w .kiosk)) i)) (retireOwn (w .kiosk) (record { 0 = i })) (own-retired w x room _ e k i (ours-show i (arrived-error O (w .kiosk) i d v p .live) (k .ours))))
   kept-in w x room (Reject Absent kind p) e k = kept-accepted w x room _ e k (rejectedP Absent p) (w .kiosk) (k .ours)
   kept-in w x room (Reject (Of i) kind p) e k = kept-accepted w x room _ e k (rejection (Of i) kind p) (retiredBy (w .kiosk) (Of i) kind) (shows (eqb kind 0x80) (leaves (eqb kind 0x81)))
     where
@@ -111,15 +112,15 @@ module _ (O N : List ℕ) where
 
   -- ---- the kiosk's requests
 
-  spoken-asked : {wire : List Wired} {asked : List Record} (i : ℕ) (l : Number) (c : Code) (v : Option (List ℕ)) → parse (encodeInvoke i l c v) ≡ Invoke i l (Local c) v
+  spoken-asked : {wire : List Wired} {asked : List Record} (i : ℕ) (l : Number) (c : Code) (v : Option (List ℕ)) (p : Option Part) → parse (encodeInvoke i l c v) ≡ Invoke i l (Local c) p
       → Spoken wire asked → Spoken (wiring kiosk (encodeInvoke i l c v) wire) (asked ++ (record { id = i; code = c } ∷ []))
-  spoken-asked {wire} {asked} i l c v back s y m i′ l′ c′ v′ e = go (wired-cases kiosk (encodeInvoke i l c v) wire m)
+  spoken-asked {wire} {asked} i l c v p back s y m i′ l′ c′ v′ e = go (wired-cases kiosk (encodeInvoke i l c v) wire m)
     where
       go : In (wired kiosk y) wire ⊎ (wired kiosk y ≡ wired kiosk (encodeInvoke i l c v)) → In (record { id = i′; code = fieldCode c′ }) (asked ++ (record { id = i; code = c } ∷ []))
       go (inl a) = in-left (record { id = i; code = c } ∷ []) (s y a i′ l′ c′ v′ e)
       go (inr a) =
           let q : y ≡ encodeInvoke i l c v = ap (λ (z : Wired). z .apdu) a in
-          let b : parse y ≡ Invoke i l (Local c) v = ap parse q ∙ back in
+          let b : parse y ≡ Invoke i l (Local c) p = ap parse q ∙ back in
           let d : i′ ≡ i = cc in
           let f : c′ ≡ Local c = cc in
           in-right asked (here (rw (d, f)))
@@ -137,21 +138,22 @@ module _ (O N : List ℕ) where
 
   pub kept-kiosk : (w : World) (c : Call) → InRange c → Steady O (w .kiosk) → (isInvoke c ≡ true → among (idIn c) (idsOf (w .book .asked)) ≡ false) → Kept N w
       → Pass (checks O (w .kiosk) c) → Kept N (after O w (at kiosk c) (done O (w .kiosk) c))
-  unfolding laterChecks done
+  unfolding done
   kept-kiosk w (receive x room) h s n k p = kept-in w x room (parse x) refl k
   kept-kiosk w (invoke i c l v room) h s n k p =
-      let lim = not-false (withinLimits 1 (given v) (encodeInvoke i l c (given v))) (p .1 .1 .1 .1 .1 .1 .1 .1 .1 .1 .0) in
+      let f = invoke-facts O (w .kiosk) i v room c l p in
+      let lim = f .sendable .within in
       record {
         ours = subst (λ (m : List Record). Ours m (cond (isSilent O c) (w .book .live) (w .book .live ++ (i ∷ []))) (w .book .asked ++ (record { id = i; code = c } ∷ [])) (w .shown))
-            (sym (own-with O (w .kiosk) i c s (p .1 .1 .1 .1 .1 .1 .1 .1 .1 .0)))
+            (sym (own-with O (w .kiosk) i c s (f .vacant)))
             (ours-ask i c (isSilent O c) (h .1) (n refl) (k .ours));
-        spoken = spoken-asked i l c (given v) (parse-invoke i l c (given v) (h .0) (number-fits l (h .2)) (h .1) (limits-value 1 (given v) (encodeInvoke i l c (given v)) lim) (limits-size 1 (given v) (encodeInvoke i l c (given v)) lim)) (k .spoken);
+        spoken = spoken-asked i l c (nonEmpty v) _ (parse-invoke i l c (nonEmpty v) (h .0) (number-fits l (h .2)) (h .1) (limits-value inApdu (nonEmpty v) (encodeInvoke i l c (nonEmpty v)) lim) (limits-size inApdu (nonEmpty v) (encodeInvoke i l c (nonEmpty v)) lim)) (k .spoken);
         known = known-asked (record { id = i; code = c }) (k .known);
-        sent = sent-wired kiosk (encodeInvoke i l c (given v)) ends-apart (k .sent);
+        sent = sent-wired kiosk (encodeInvoke i l c (nonEmpty v)) ends-apart (k .sent);
         told = k .told;
       }
-  kept-kiosk w (result i v room) h s n k p = kept-answering w (result i v room) _ (resultApdu (w .kiosk) i v) (omega (arith, first-result i (codeIn (peerRecords (w .kiosk)) i) (given v))) refl k
-  kept-kiosk w (error i e v room) h s n k p = kept-answering w (error i e v room) _ (encodeError i e (given v)) (omega (arith, first-error i e (given v))) refl k
+  kept-kiosk w (result i v room) h s n k p = kept-answering w (result i v room) _ (resultApdu (w .kiosk) i v) (omega (arith, first-result i (codeIn (peerRecords (w .kiosk)) i) (nonEmpty v))) refl k
+  kept-kiosk w (error i e v room) h s n k p = kept-answering w (error i e v room) _ (encodeError i e (nonEmpty v)) (omega (arith, first-error i e (nonEmpty v))) refl k
   kept-kiosk w (reject i q room) h s n k p = kept-answering w (reject i q room) _ (encodeReject (Of i) 0x81 q) (omega (arith, first-reject (Of i) 0x81 q)) refl k
   kept-kiosk w (forget own i) h s n k p = record {
     ours = subst (λ (l : List Record). Ours l (leaving i (w .book .live)) (w .book .asked) (w .shown)) (sym (view-retired (w .kiosk .own) i)) (ours-retire i (k .ours));

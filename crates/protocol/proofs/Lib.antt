@@ -1,6 +1,8 @@
--- Laws and proofs of the protocol. Theorem has demand 3, Invariant what it rests on, Steady the run of one end, Marked P1 to P12, Witness and Instance the runs that compute.
-mod Marked
+-- Laws and proofs of the protocol. Theorem has demand 3, Invariant what it rests on, Steady the run of one end, Computed P1 to P12 and the runs of Witness; Instance says that demand 3 speaks of one.
 pub mod Checks
+pub mod Facts
+pub mod Refusals
+pub mod Places
 mod Ids
 mod Coverage
 pub mod Steady
@@ -9,9 +11,11 @@ mod Keeping
 mod Written
 mod Kiosk
 mod Controller
-mod Claims
-mod Answers
+mod Showing
+mod Reaching
 pub mod Theorem
 mod Witness
+pub mod Computed
 mod Instance
 mod Linked
+mod Levels

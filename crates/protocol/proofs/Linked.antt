@@ -1,8 +1,9 @@
--- Linked ids: what 7 and 8 ask of an invoke request's peer records, problems 5, 6 and 7 ask of the own records where the Invoke arrives.
-use Prim.Native.Nat.{ℕ, zero, suc}
+-- Linked ids: what 7 and 8 ask of an invoke request's peer records, problems 5, 6 and 7 ask of the own records where the Invoke arrives. This validates the two lists
+-- beside each other: nothing cites it.
+use Prim.Native.Nat.{ℕ}
 use mathlib.Core.Path.{_≡_, refl, sym, ap, _∙_}
-use mathlib.Core.Bool.{Bool, true, false}
-use mathlib.Core.List.{List, [], _∷_}
+use mathlib.Core.Bool.{true, false}
+use mathlib.Core.List.{List}
 use mathlib.Core.Option.{Option}
 use borrow.Author.Tests.{not-false}
 use Rattle.records.specs.declared.Code.{Code}
@@ -16,20 +17,15 @@ use Rattle.optable.specs.Lookup.{childOf}
 use Rattle.optable.proofs.TableLaws.{child-parent}
 use Rattle.apdu.specs.declared.Number.{Number}
 use Rattle.apdu.specs.declared.Number.the-variants.{Of, Absent}
+use Rattle.apdu.specs.Field.{Part}
 use Rattle.apdu.specs.declared.CodeField.the-variants.{Local}
 use Rattle.protocol.specs.Call.{invoke}
-use Rattle.protocol.specs.Check.{Check, codeFound, codeIn, ownRecords, peerRecords, linkedTo}
+use Rattle.protocol.specs.Check.{codeFound, codeIn, ownRecords, peerRecords, linkedTo}
 use Rattle.protocol.specs.Receive.{invokeChecks}
-use Rattle.protocol.specs.Perform.{laterChecks, checks}
-use Rattle.protocol.proofs.Checks.{Pass}
+use Rattle.protocol.specs.Perform.{checks}
+use Rattle.protocol.proofs.Checks.{Pass, failing}
+use Rattle.protocol.proofs.Facts.{invoke-facts}
 use Rattle.protocol.proofs.Ids.{never-both}
-
--- whether check n of a list fails
-abbrev failsAt : ℕ → List Check → Bool
-failsAt zero [] = false
-failsAt (suc n) [] = false
-failsAt zero (c ∷ cs) = c .fails
-failsAt (suc n) (c ∷ cs) = failsAt n cs
 
 member-same : (n : ℕ) (l m : List Record) → lookup n m ≡ lookup n l → member n l ≡ true → member n m ≡ true
 member-same n l m e h = go (lookup n m) refl
@@ -39,13 +35,14 @@ member-same n l m e h = go (lookup n m) refl
     go Nothing q = absurd (never-both (member n l) h (nothing-is-absent n l (sym e ∙ q)))
 
 -- an Invoke whose request passed at s has none of the linked problems at t, where the parent's record is an own one
-pub linked-taken : (T : List ℕ) (s t : State) (i : ℕ) (c : Code) (l : Number) (v : List ℕ) (room : ℕ) (w : Option (List ℕ)) → lookup (linkedTo l) (ownRecords t) ≡ lookup (linkedTo l) (peerRecords s)
+pub linked-taken : (T : List ℕ) (s t : State) (i : ℕ) (c : Code) (l : Number) (v : List ℕ) (room : ℕ) (w : Option Part) → lookup (linkedTo l) (ownRecords t) ≡ lookup (linkedTo l) (peerRecords s)
     → Pass (checks T s (invoke i c l v room))
-    → (failsAt 1 (invokeChecks T t i l (Local c) w) ≡ false) × (failsAt 2 (invokeChecks T t i l (Local c) w) ≡ false) × (failsAt 5 (invokeChecks T t i l (Local c) w) ≡ false)
-unfolding laterChecks invokeChecks
+    → (failing 5 (invokeChecks T t i l (Local c) w) ≡ false) × (failing 6 (invokeChecks T t i l (Local c) w) ≡ false) × (failing 7 (invokeChecks T t i l (Local c) w) ≡ false)
+unfolding invokeChecks
 linked-taken T s t i c Absent v room w e p = (refl, refl, refl)
 linked-taken T s t i c (Of j) v room w e p =
-    let has = not-false (member j (peerRecords s)) (p .1 .1 .1 .1 .1 .0) in
-    let child = not-false (childOf T (codeIn (peerRecords s) j) c) (p .1 .1 .1 .1 .1 .1 .0) in
+    let f = invoke-facts T s i v room c (Of j) p in
+    let has = not-false (member j (peerRecords s)) (f .parent) in
+    let child = not-false (childOf T (codeIn (peerRecords s) j) c) (f .child) in
     let same : codeIn (ownRecords t) j ≡ codeIn (peerRecords s) j = ap codeFound e in
     (rw (member-same j (peerRecords s) (ownRecords t) e has), rw (same, child-parent T (codeIn (peerRecords s) j) c child), rw (same, child))

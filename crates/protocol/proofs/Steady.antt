@@ -6,7 +6,7 @@ use mathlib.Core.List.{List, [], _∷_}
 use lib.ListN.{length, getD}
 use native.Mathlib.Omega.{arith}
 use lib.Dec.{eqb}
-use borrow.Author.Tests.{not-false, leb-false}
+use borrow.Author.Tests.{leb-false}
 use Rattle.base.proofs.Tests.{cond-elim, and-true, and-left, and-right}
 use Rattle.records.specs.declared.Code.{Code}
 use Rattle.records.specs.declared.Record.{Record}
@@ -27,8 +27,9 @@ use Rattle.protocol.specs.Call.{own, peer, Call, receive, invoke, result
 use Rattle.protocol.specs.Check.{covered, usable, isSilent, isFull, ownRecords, peerRecords}
 use Rattle.protocol.specs.Receive.{fieldCode, isOperation, fault, invokeChecks, resultChecks, errorChecks, withPeer, receiveApdu}
 use Rattle.protocol.specs.Perform.{laterChecks, checks, done, perform, withOwn}
-use Rattle.protocol.specs.End.{gives, Fit, EachFit}
+use Rattle.protocol.specs.End.{gives, Fit, EachFit, OneEnd}
 use Rattle.protocol.proofs.Checks.{Pass, settle, never-given, avoids}
+use Rattle.protocol.proofs.Facts.{invoke-facts, arrived-invoke}
 use Rattle.protocol.proofs.Coverage.{covered-without, covered-added}
 
 module _ (T : List ℕ) where
@@ -98,23 +99,23 @@ module _ (T : List ℕ) where
   operation-listed Other h = let z : _≡_ {A = ℕ} 0 1 = cc in absurd (omega arith)
 
   steady-received : (s : State) (x : List ℕ) (p : Apdu) → Steady s → Steady (stateAfter s (receiveApdu T s x p))
-  unfolding receiveApdu invokeChecks
+  unfolding receiveApdu
   steady-received s x badlyStructured h = h
   steady-received s x unrecognized h = h
   steady-received s x (mistyped i) h = h
   steady-received s x (Invoke i l c v) h =
       settle (λ a. Steady (stateAfter s a)) (invokeChecks T s i l c v) _ (λ _. h)
-      (λ p. steady-peer-added s i (fieldCode c) (p .0) (operation-listed c (not-false (isOperation T c) (p .1 .1 .1 .0))) (p .1 .1 .1 .1 .1 .1 .0) h)
+      (λ p. let f = arrived-invoke T s i l c v p in steady-peer-added s i (fieldCode c) (f .new) (operation-listed c (f .known)) (f .vacant) h)
   steady-received s x (Result i b) h = settle (λ a. Steady (stateAfter s a)) (resultChecks T s i b) _ (λ _. h) (λ _. steady-own-retired i h)
   steady-received s x (Error i e v) h = settle (λ a. Steady (stateAfter s a)) (errorChecks T s i e v) _ (λ _. h) (λ _. steady-own-retired i h)
   steady-received s x (Reject Absent kind p) h = h
   steady-received s x (Reject (Of i) kind p) h = cond-elim Steady (eqb kind 0x81) (retireOwn s (record { 0 = i })) s (λ _. steady-own-retired i h) (λ _. h)
 
   steady-done : (s : State) (c : Call) → Pass (checks T s c) → Steady s → Steady (stateAfter s (done T s c))
-  unfolding laterChecks done
+  unfolding done
   steady-done s (receive x room) p h = steady-received s x (parse x) h
   steady-done s (invoke i c l v room) p h =
-      steady-own-added s i c (p .1 .1 .1 .0) (not-false (listed (operationOf T c)) (p .1 .1 .0)) (p .1 .1 .1 .1 .1 .1 .1 .1 .1 .0) h
+      let f = invoke-facts T s i v room c l p in steady-own-added s i c (f .new) (f .known) (f .vacant) h
   steady-done s (result i v room) p h = steady-peer-retired i h
   steady-done s (error i e v room) p h = steady-peer-retired i h
   steady-done s (reject i p room) q h = steady-peer-retired i h
@@ -189,6 +190,5 @@ module _ (T : List ℕ) where
     each-fit s [] h = tt
     each-fit s (c ∷ l) h = (fit s c h, each-fit (stateAfter s (perform T s c)) l (steady-step s c h))
 
--- from a fresh state, with one valid table
-pub one-end : (T : List ℕ) → valid T ≡ true → (l : List Call) → EachFit T fresh l
+pub one-end : OneEnd
 one-end T v l = each-fit T v fresh l (steady-fresh T)

@@ -20,8 +20,8 @@ use Rattle.protocol.proofs.Steady.{steady-step}
 use Rattle.protocol.proofs.Invariant.{Kept, Inv, inv-begin}
 use Rattle.protocol.proofs.Kiosk.{isInvoke, idIn, kept-refused, kept-kiosk}
 use Rattle.protocol.proofs.Controller.{kept-controller}
-use Rattle.protocol.proofs.Claims.{shows-given}
-use Rattle.protocol.proofs.Answers.{reaches}
+use Rattle.protocol.proofs.Showing.{shows-given}
+use Rattle.protocol.proofs.Reaching.{reaches}
 
 module _ (O N : List ℕ) where
   -- ---- 'an id for one accepted invocation only', said of the whole list, holds before each call

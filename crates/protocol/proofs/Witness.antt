@@ -1,28 +1,13 @@
--- Demand 3 is not empty, and its premises are needed: runs that compute.
+-- Demand 3 is not empty, and its premises are needed: runs, and what becomes of them. Computed.antt computes them.
 use Prim.Native.Nat.{ℕ}
-use mathlib.Core.Path.{_≡_, refl}
-use mathlib.Core.List.{List, [], _∷_, map}
+use mathlib.Core.List.{List, [], _∷_}
 use mathlib.Core.Option.{Option, some, none}
 use Rattle.records.specs.declared.Code.{Code}
 use Rattle.records.specs.State.{fresh}
 use Rattle.apdu.specs.declared.Number.the-variants.{Of, Absent}
-use Rattle.protocol.specs.Call.{receive, invoke, result, error, Refusal, plain, rejecting, Answer, accepted, refused}
+use Rattle.apdu.specs.Encode.{encodeInvoke, encodeResult, encodeError, encodeReject}
+use Rattle.protocol.specs.Call.{own, receive, invoke, result, error, forget, Refusal, plain, rejecting, Answer, accepted, refused}
 use Rattle.protocol.specs.Book.{kiosk, controller, Event, at, World, begin, answerTo, next, final}
-use Rattle.ber.specs.Header.{numberFrom, digits, continued, oneOf, highTag, identifierOctets, lengthOf, lengthCount, lengthOctets, headerWith, headerOf}
-use Rattle.ber.specs.Rule.{shortest, parts, contentRule}
-use Rattle.ber.specs.Element.{constructed, restRight, elementsIn, elementWith, elementOf, sizeIn, size, fills, wellFormed, elementOctets, given}
-use Rattle.ber.specs.Integer.{signOf, pattern, integerOf, fitsOctets, octetCount, integerOctets}
-use Rattle.optable.specs.Count.{every, any, seek}
-use Rattle.optable.specs.Read.{count, start, place, octetAt, codeAt, hasCode, operationAt, errorAt, firstAt, secondAt}
-use Rattle.optable.specs.Validity.{withinLimit, behind, laidOut, ruleRight, operationRight, errorRight, pairBelow, pairRight, indexed, allowed, above, rises, fieldsRight, entryRight, partRight, valid}
-use Rattle.optable.specs.Lookup.{find, operationIn, operationOf, errorIn, errorOf, joins, joined, parentAt, hasChild}
-use Rattle.optable.specs.Value.{valueRight}
-use Rattle.apdu.specs.Field.{fieldsWith, fieldsIn}
-use Rattle.apdu.specs.Parse.{numberOf, numberUnder, isCode, codeOf, codedWith, codedOf, linkedWith, linkedOf, invokeWith, invokeOf, resultWith, resultOf, mostProblem, isProblem, idAllowed, rejectWith, rejectBehind, rejectOf, behindId, withId, byKind, parseAt, parse, errorOf as errorFrom}
-use Rattle.apdu.specs.Encode.{linkedField, rejectedField, valueField, bodyField, encodeInvoke, encodeResult, encodeError, encodeReject}
-use Rattle.protocol.specs.Check.{usable, valueWell, withinLimits}
-use Rattle.protocol.specs.Receive.{fault, invokeChecks, resultChecks, errorChecks, receiveApdu}
-use Rattle.protocol.specs.Perform.{laterChecks, done, perform}
 
 -- ---- tables: operation 7 of class 2, argument and optional result of type 02
 
@@ -50,6 +35,14 @@ tableX =
     0x00 ∷ 0x01 ∷ 0x00 ∷ 0x10 ∷ 0x00 ∷ 0x02 ∷ 0x00 ∷ 0x18 ∷ 0x00 ∷ 0x01 ∷ 0x00 ∷ 0x24 ∷ 0x00 ∷ 0x00 ∷ 0x00 ∷ 0x28
     ∷ 0x00 ∷ 0x00 ∷ 0x00 ∷ 0x07 ∷ 0x02 ∷ 0x02 ∷ 0x04 ∷ 0x02
     ∷ 0x00 ∷ 0x00 ∷ 0x00 ∷ 0x01 ∷ 0x00 ∷ 0x00 ∷ 0x00 ∷ 0x00 ∷ 0x00 ∷ 0x02 ∷ 0x00 ∷ 0x00
+    ∷ 0x00 ∷ 0x00 ∷ 0x00 ∷ 0x00
+    ∷ []
+
+-- operation 7 may be linked to itself, and has no error
+abbrev tableL : List ℕ
+tableL =
+    0x00 ∷ 0x01 ∷ 0x00 ∷ 0x10 ∷ 0x00 ∷ 0x00 ∷ 0x00 ∷ 0x18 ∷ 0x00 ∷ 0x00 ∷ 0x00 ∷ 0x18 ∷ 0x00 ∷ 0x01 ∷ 0x00 ∷ 0x18
+    ∷ 0x00 ∷ 0x00 ∷ 0x00 ∷ 0x07 ∷ 0x02 ∷ 0x02 ∷ 0x02 ∷ 0x02
     ∷ 0x00 ∷ 0x00 ∷ 0x00 ∷ 0x00
     ∷ []
 
@@ -105,7 +98,7 @@ abbrev refusalsOf : List ℕ → List ℕ → World → List Event → List (Opt
 refusalsOf O N w [] = []
 refusalsOf O N w (e ∷ l) = refusalOf (answerTo O N w e) ∷ refusalsOf O N (next O N w e) l
 
-abbrev tells : Run → Tells
+abbrev pub tells : Run → Tells
 tells r = record { refusals = refusalsOf (r .atKiosk) (r .atController) (begin fresh) (r .events); shown = final (r .atKiosk) (r .atController) (begin fresh) (r .events) .shown }
 
 -- a result is shown once though its APDU arrives twice; an error; an absent result; an unlisted error of each sort
@@ -116,6 +109,27 @@ good =
     ∷ ask 3 ∷ hear 3 ∷ giveResult 3 [] ∷ getResult 3 none
     ∷ ask 4 ∷ hear 4 ∷ giveError 4 2 ∷ getError 4 2
     ∷ ask 5 ∷ hear 5 ∷ giveError 5 3 ∷ getError 5 3
+    ∷ []
+
+-- the controller rejects the kiosk's result to its own invocation 1: the kiosk's invocation 1 stays live, and its answer is shown
+abbrev spared : List Event
+spared =
+    ask 1
+    ∷ at controller (invoke 1 seven Absent three 100)
+    ∷ at kiosk (receive (encodeInvoke 1 Absent seven (some three)) 11)
+    ∷ at kiosk (result 1 zero02 100)
+    ∷ at controller (forget own 1)
+    ∷ at controller (receive (encodeResult 1 seven (some zero02)) 11)
+    ∷ at kiosk (receive (encodeReject (Of 1) 0x82 0) 11)
+    ∷ hear 1 ∷ giveResult 1 zero02 ∷ getResult 1 (some zero02)
+    ∷ []
+
+-- while it performs invocation 1 the controller asks back: the kiosk finds the linked id among its own records
+abbrev linked : List Event
+linked =
+    ask 1 ∷ hear 1
+    ∷ at controller (invoke 9 seven (Of 1) three 100)
+    ∷ at kiosk (receive (encodeInvoke 9 (Of 1) seven (some three)) 11)
     ∷ []
 
 -- an id asked twice: the repeat of the first answer is taken for the second
@@ -147,6 +161,8 @@ apart = ask 1 ∷ hear 1 ∷ giveResult 1 (0x04 ∷ 0x00 ∷ []) ∷ at kiosk (r
 abbrev pub runs : List Run
 runs =
     record { atKiosk = tableO; atController = tableN; events = good }
+    ∷ record { atKiosk = tableO; atController = tableN; events = spared }
+    ∷ record { atKiosk = tableL; atController = tableL; events = linked }
     ∷ record { atKiosk = tableO; atController = tableN; events = reused }
     ∷ record { atKiosk = tableO; atController = tableN; events = cramped }
     ∷ record { atKiosk = tableO; atController = tableN; events = forged }
@@ -166,13 +182,11 @@ told =
           ∷ [];
       shown = 1 ∷ 2 ∷ 3 ∷ [];
     }
+    ∷ record { refusals = none ∷ none ∷ none ∷ none ∷ none ∷ some (rejecting (Of 1) 0x82 0) ∷ none ∷ none ∷ none ∷ none ∷ []; shown = 1 ∷ [] }
+    ∷ record { refusals = none ∷ none ∷ none ∷ none ∷ []; shown = [] }
     ∷ record { refusals = none ∷ none ∷ none ∷ none ∷ none ∷ none ∷ []; shown = 1 ∷ 1 ∷ [] }
     ∷ record { refusals = none ∷ none ∷ none ∷ some (plain 2) ∷ []; shown = [] }
     ∷ record { refusals = none ∷ none ∷ []; shown = 1 ∷ [] }
     ∷ record { refusals = none ∷ none ∷ none ∷ none ∷ none ∷ []; shown = 1 ∷ [] }
     ∷ record { refusals = none ∷ none ∷ none ∷ some (rejecting (Of 1) 0x82 2) ∷ []; shown = [] }
     ∷ []
-
-runs-compute : map tells runs ≡ told
-unfolding answerTo pairBelow pairRight numberFrom digits continued oneOf highTag identifierOctets lengthOf lengthCount lengthOctets headerWith headerOf shortest parts contentRule constructed restRight elementsIn elementWith elementOf sizeIn size fills wellFormed elementOctets signOf pattern integerOf fitsOctets octetCount integerOctets every any seek count start place octetAt codeAt hasCode operationAt errorAt firstAt secondAt withinLimit behind laidOut ruleRight operationRight errorRight indexed allowed above rises fieldsRight entryRight partRight valid find operationIn operationOf errorIn errorOf joins joined parentAt hasChild valueRight fieldsWith fieldsIn numberOf numberUnder isCode codeOf codedWith codedOf linkedWith linkedOf invokeWith invokeOf resultWith resultOf errorFrom mostProblem isProblem idAllowed rejectWith rejectBehind rejectOf behindId withId byKind parseAt parse given linkedField rejectedField valueField bodyField encodeInvoke encodeResult encodeError encodeReject usable valueWell withinLimits fault invokeChecks resultChecks errorChecks receiveApdu laterChecks done perform
-runs-compute = refl

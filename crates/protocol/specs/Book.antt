@@ -8,8 +8,9 @@ use Rattle.records.specs.declared.Code.{Code}
 use Rattle.records.specs.declared.Record.{Record}
 use Rattle.records.specs.declared.State.{State}
 use Rattle.apdu.specs.declared.Number.the-variants.{Of, Absent}
+use Rattle.apdu.specs.Field.{octetsOf}
 use Rattle.apdu.specs.Parse.{Apdu, badlyStructured, unrecognized, mistyped, parse, invoke as Invoke, result as Result, error as Error, reject as Reject}
-use Rattle.ber.specs.Element.{given}
+use Rattle.base.specs.Lists.{nonEmpty}
 use Rattle.protocol.specs.Call.{own, peer, Call, receive, invoke, result, error, reject, forget, Indication, invoked, resulted, erred, rejectedU, rejectedP, Answer, isRefused, indicatedBy, writtenBy, stateAfter}
 use Rattle.protocol.specs.Check.{isSilent}
 use Rattle.protocol.specs.Receive.{fieldCode, bodyValue}
@@ -122,8 +123,8 @@ hearing controller (forget side i) heard = heard
 -- given: each accepted result or error request of the controller, with the code last heard with that id, and the octets that it wrote
 abbrev pub giving : List Record → End → Call → List ℕ → List Answered → List Answered
 giving heard kiosk c x l = l
-giving heard controller (result i v room) x l = l ++ (record { given = record { id = i; operation = lastCode i heard; kind = aResult; error = none; value = given v }; apdu = x } ∷ [])
-giving heard controller (error i e v room) x l = l ++ (record { given = record { id = i; operation = lastCode i heard; kind = anError; error = some e; value = given v }; apdu = x } ∷ [])
+giving heard controller (result i v room) x l = l ++ (record { given = record { id = i; operation = lastCode i heard; kind = aResult; error = none; value = nonEmpty v }; apdu = x } ∷ [])
+giving heard controller (error i e v room) x l = l ++ (record { given = record { id = i; operation = lastCode i heard; kind = anError; error = some e; value = nonEmpty v }; apdu = x } ∷ [])
 giving heard controller (receive y room) x l = l
 giving heard controller (invoke i c k v room) x l = l
 giving heard controller (reject i p room) x l = l
@@ -183,8 +184,8 @@ begin s = record { kiosk = s; controller = s; book = emptyBook; shown = [] }
 abbrev pub shownBy : Option Indication → Option Given
 shownBy none = none
 shownBy (some (invoked i l c v)) = none
-shownBy (some (resulted i b c)) = some (record { id = i; operation = c; kind = aResult; error = none; value = bodyValue b })
-shownBy (some (erred i e v c)) = some (record { id = i; operation = c; kind = anError; error = some e; value = v })
+shownBy (some (resulted i b c)) = some (record { id = i; operation = c; kind = aResult; error = none; value = octetsOf (bodyValue b) })
+shownBy (some (erred i e v c)) = some (record { id = i; operation = c; kind = anError; error = some e; value = octetsOf v })
 shownBy (some (rejectedU i kind p)) = none
 shownBy (some (rejectedP i p)) = none
 

@@ -6,6 +6,7 @@ use mathlib.Core.Option.{Option, none}
 use Rattle.records.specs.declared.Code.{Code}
 use Rattle.records.specs.declared.State.{State}
 use Rattle.apdu.specs.declared.Number.{Number}
+use Rattle.apdu.specs.Field.{Part}
 use Rattle.apdu.specs.Parse.{CodedValue}
 use Rattle.apdu.specs.Encode.{encodeReject}
 
@@ -28,14 +29,15 @@ pub data Call : Type 0 where
   -- side, id
   forget : Side → ℕ → Call
 
--- what a received APDU is indicated as: every field, absent ones as none; a result and an error also with the record's operation code
+-- what a received APDU is indicated as: every field, absent ones as none, a value as a part of the lent octets; a result and an error also
+-- with the record's operation code
 pub data Indication : Type 0 where
   -- id, linked id, operation code, argument
-  invoked : ℕ → Number → Code → Option (List ℕ) → Indication
+  invoked : ℕ → Number → Code → Option Part → Indication
   -- id, code and value, the record's operation code
   resulted : ℕ → Option CodedValue → Code → Indication
   -- id, error code, parameter, the record's operation code
-  erred : ℕ → Code → Option (List ℕ) → Code → Indication
+  erred : ℕ → Code → Option Part → Code → Indication
   -- RO-REJECT-U: id, the problem's kind 81 to 83, the problem
   rejectedU : ℕ → ℕ → ℕ → Indication
   -- RO-REJECT-P: id, the general problem

@@ -104,7 +104,15 @@ unfoldable pub valueWell : ℕ → Option (List ℕ) → Bool
 valueWell d none = true
 valueWell d (some v) = wellFormed d v
 
--- refusal 15: an APDU x within 4,096 octets and 16 levels, whose value stands so many levels down
+-- how many levels down a value stands: directly in an Invoke or an Error, and in 30 in a Result
+abbrev pub inApdu : ℕ
+inApdu = 1
+
+abbrev pub inBody : ℕ
+inBody = 2
+
+-- refusal 15: an APDU x within 4,096 octets and 16 levels, whose value stands so many levels down. Where 9 passes this is so exactly
+-- where x has at most 4,096 octets and is well-formed with 16 levels: proofs/Levels.antt, `invoke-within`, `result-within`, `error-within`
 unfoldable pub withinLimits : ℕ → Option (List ℕ) → List ℕ → Bool
 withinLimits down v x = leb (length x) octets && valueWell (levels - down) v
 

@@ -5,7 +5,8 @@ use mathlib.Core.Bool.{Bool, true, false}
 use mathlib.Core.List.{List, [], _∷_}
 use lib.Dec.{eqb}
 use Rattle.records.specs.declared.State.{State}
-use Rattle.records.specs.State.{soundState}
+use Rattle.records.specs.State.{fresh, soundState}
+use Rattle.optable.specs.Validity.{valid}
 use Rattle.protocol.specs.Call.{Call, Answer, accepted, refused, refusalNumber, stateAfter}
 use Rattle.protocol.specs.Check.{usable}
 use Rattle.protocol.specs.Perform.{perform}
@@ -26,3 +27,8 @@ pub record Fit (T : List ℕ) (s : State) (c : Call) : Type 0 where
 abbrev pub EachFit : List ℕ → State → List Call → Type 0
 EachFit T s [] = Unit {0}
 EachFit T s (c ∷ l) = Fit T s c × EachFit T (stateAfter s (perform T s c)) l
+
+-- 'call after call from a fresh state': with one valid table, each call of any list is made on a sound state that the table covers, so that
+-- 19 and 1 are never given
+abbrev pub OneEnd : Type 0
+OneEnd = (T : List ℕ) → valid T ≡ true → (l : List Call) → EachFit T fresh l

@@ -68,9 +68,9 @@ examples =
       peers = [];
       writes = invokeApdu;
     }
-    -- P2: result, value 02 01 00
+    -- P2: result, value 02 01 00, the last three of the 13 octets
     ∷ received (0xA2 ∷ 0x0B ∷ 0x02 ∷ 0x01 ∷ 0x05 ∷ 0x30 ∷ 0x06 ∷ 0x02 ∷ 0x01 ∷ 0x07 ∷ 0x02 ∷ 0x01 ∷ 0x00 ∷ [])
-    (accepted (some (resulted 5 (some (record { code = Local seven; value = 0x02 ∷ 0x01 ∷ 0x00 ∷ [] })) seven)) fresh []) [] []
+    (accepted (some (resulted 5 (some (record { code = Local seven; value = record { at = 10; end = 13; octets = 0x02 ∷ 0x01 ∷ 0x00 ∷ [] } })) seven)) fresh []) [] []
     -- P3: error 1, no value
     ∷ received (0xA3 ∷ 0x06 ∷ 0x02 ∷ 0x01 ∷ 0x05 ∷ 0x02 ∷ 0x01 ∷ 0x01 ∷ [])
     (accepted (some (erred 5 (record { 0 = 1 }) none seven)) fresh []) [] []

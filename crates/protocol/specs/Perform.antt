@@ -14,10 +14,10 @@ use Rattle.optable.specs.Lookup.{operationOf, listed, argumentOf, resultOf, err
 use Rattle.optable.specs.Value.{valueRight}
 use Rattle.apdu.specs.declared.Number.the-variants.{Of}
 use Rattle.apdu.specs.Parse.{parse}
-use Rattle.ber.specs.Element.{given}
+use Rattle.base.specs.Lists.{nonEmpty}
 use Rattle.apdu.specs.Encode.{encodeInvoke, encodeResult, encodeError, encodeReject}
 use Rattle.protocol.specs.Call.{own, peer, Call, receive, invoke, result, error, reject, forget, Answer, accepted}
-use Rattle.protocol.specs.Check.{Check, _⇐_, answer, shared, ownRecords, peerRecords, codeIn, isFull, classIn, isSilent, isClass, isBusy, isLinked, linkedTo, valueWell, withinLimits, leastRoom, tooShort}
+use Rattle.protocol.specs.Check.{Check, _⇐_, answer, shared, ownRecords, peerRecords, codeIn, isFull, classIn, isSilent, isClass, isBusy, isLinked, linkedTo, valueWell, inApdu, inBody, withinLimits, leastRoom, tooShort}
 use Rattle.protocol.specs.Receive.{receiveApdu}
 
 -- 2, 3 or 4 of the invoke problems
@@ -26,7 +26,7 @@ isUserProblem p = eqb p 2 || (eqb p 3 || eqb p 4)
 
 -- the APDU that a result request writes: its record's code stands beside a value
 abbrev pub resultApdu : State → ℕ → List ℕ → List ℕ
-resultApdu s i v = encodeResult i (codeIn (peerRecords s) i) (given v)
+resultApdu s i v = encodeResult i (codeIn (peerRecords s) i) (nonEmpty v)
 
 -- ---- the checks of each call behind 19 and 1, in document 01's order
 
@@ -40,19 +40,19 @@ laterChecks T s (invoke i c l v room) =
     ∷ (6 ⇐ isBusy T (ownRecords s))
     ∷ (7 ⇐ (isLinked l && not (member (linkedTo l) (peerRecords s))))
     ∷ (8 ⇐ (isLinked l && not (childOf T (codeIn (peerRecords s) (linkedTo l)) c)))
-    ∷ (9 ⇐ not (valueWell levels (given v)))
-    ∷ (10 ⇐ not (valueRight (argumentOf (operationOf T c)) (given v)))
+    ∷ (9 ⇐ not (valueWell levels (nonEmpty v)))
+    ∷ (10 ⇐ not (valueRight (argumentOf (operationOf T c)) (nonEmpty v)))
     ∷ (14 ⇐ (not (isSilent T c) && isFull (ownRecords s)))
-    ∷ (15 ⇐ not (withinLimits 1 (given v) (encodeInvoke i l c (given v))))
-    ∷ (2 ⇐ tooShort room (encodeInvoke i l c (given v)))
+    ∷ (15 ⇐ not (withinLimits inApdu (nonEmpty v) (encodeInvoke i l c (nonEmpty v))))
+    ∷ (2 ⇐ tooShort room (encodeInvoke i l c (nonEmpty v)))
     ∷ []
 -- Result: 19, 1, 11, 12, 9, 10, 15, 2
 laterChecks T s (result i v room) =
     (11 ⇐ not (member i (peerRecords s)))
     ∷ (12 ⇐ isClass 3 5 (classIn T (codeIn (peerRecords s) i)))
-    ∷ (9 ⇐ not (valueWell levels (given v)))
-    ∷ (10 ⇐ not (valueRight (resultOf (operationOf T (codeIn (peerRecords s) i))) (given v)))
-    ∷ (15 ⇐ not (withinLimits 2 (given v) (resultApdu s i v)))
+    ∷ (9 ⇐ not (valueWell levels (nonEmpty v)))
+    ∷ (10 ⇐ not (valueRight (resultOf (operationOf T (codeIn (peerRecords s) i))) (nonEmpty v)))
+    ∷ (15 ⇐ not (withinLimits inBody (nonEmpty v) (resultApdu s i v)))
     ∷ (2 ⇐ tooShort room (resultApdu s i v))
     ∷ []
 -- Error: 19, 1, 11, 12, 13, 9, 10, 15, 2
@@ -60,10 +60,10 @@ laterChecks T s (error i e v room) =
     (11 ⇐ not (member i (peerRecords s)))
     ∷ (12 ⇐ isClass 4 5 (classIn T (codeIn (peerRecords s) i)))
     ∷ (13 ⇐ not (known (errorOf T e) && paired T (codeIn (peerRecords s) i) e))
-    ∷ (9 ⇐ not (valueWell levels (given v)))
-    ∷ (10 ⇐ not (valueRight (parameterOf (errorOf T e)) (given v)))
-    ∷ (15 ⇐ not (withinLimits 1 (given v) (encodeError i e (given v))))
-    ∷ (2 ⇐ tooShort room (encodeError i e (given v)))
+    ∷ (9 ⇐ not (valueWell levels (nonEmpty v)))
+    ∷ (10 ⇐ not (valueRight (parameterOf (errorOf T e)) (nonEmpty v)))
+    ∷ (15 ⇐ not (withinLimits inApdu (nonEmpty v) (encodeError i e (nonEmpty v))))
+    ∷ (2 ⇐ tooShort room (encodeError i e (nonEmpty v)))
     ∷ []
 -- User reject: 19, 1, 16, 11, 2
 laterChecks T s (reject i p room) =
@@ -91,9 +91,9 @@ withOwn T s i c = cond (isSilent T c) s (addOwn s (record { 0 = i }) c)
 -- an accepted receive writes nothing; result, error and user reject retire their peer record
 unfoldable pub done : List ℕ → State → Call → Answer
 done T s (receive x room) = receiveApdu T s x (parse x)
-done T s (invoke i c l v room) = accepted none (withOwn T s i c) (encodeInvoke i l c (given v))
+done T s (invoke i c l v room) = accepted none (withOwn T s i c) (encodeInvoke i l c (nonEmpty v))
 done T s (result i v room) = accepted none (retirePeer s (record { 0 = i })) (resultApdu s i v)
-done T s (error i e v room) = accepted none (retirePeer s (record { 0 = i })) (encodeError i e (given v))
+done T s (error i e v room) = accepted none (retirePeer s (record { 0 = i })) (encodeError i e (nonEmpty v))
 done T s (reject i p room) = accepted none (retirePeer s (record { 0 = i })) (encodeReject (Of i) 0x81 p)
 done T s (forget own i) = accepted none (retireOwn s (record { 0 = i })) []
 done T s (forget peer i) = accepted none (retirePeer s (record { 0 = i })) []

@@ -7,17 +7,14 @@ use lib.ListN.{length, drop}
 use Rattle.records.specs.declared.State.{State}
 use Rattle.apdu.specs.declared.Number.{Number}
 use Rattle.apdu.specs.declared.Number.the-variants.{Of, Absent}
-use Rattle.apdu.specs.Reading.{readValue, readBody}
-use Rattle.protocol.specs.declared.OwnLink.{OwnLink}
-use Rattle.protocol.specs.declared.OwnLink.the-variants.{To as ToOwn, Absent as NoOwn}
-use Rattle.protocol.specs.declared.PeerLink.{PeerLink}
-use Rattle.protocol.specs.declared.PeerLink.the-variants.{To as ToPeer, Absent as NoPeer}
+use Rattle.apdu.specs.Reading.{readOwnLink, readValue, readBody}
 use Rattle.protocol.specs.declared.Invocation.{Invocation}
 use Rattle.protocol.specs.declared.Invocation.the-variants.{Own, Peer}
 use Rattle.protocol.specs.declared.Indication.{Indication as Indicated}
 use Rattle.protocol.specs.declared.Indication.the-variants.{Invoke, Result, Error, InvokeRejected, ResultRejected, ErrorRejected, GeneralReject}
 use Rattle.protocol.specs.declared.Refusal.{Refusal as Reason}
 use Rattle.protocol.specs.declared.Refusal.the-variants.{InvalidTable, ShortOutput, LongInput, UnknownOperation, IdInUse, SynchronousLive, UnknownLinkedId, NotAChild, MalformedValue, MistypedValue, NoRecord, WrongClass, UnlistedError, RecordsFull, LargeApdu, WrongProblem, UnacceptableReject, Rejected, UnsoundState}
+use Rattle.protocol.specs.declared.Problem.{Problem}
 use Rattle.protocol.specs.declared.Reception.{Reception}
 use Rattle.protocol.specs.declared.Reception.the-variants.{Indicated as Accepting, Refused as Refusing}
 use Rattle.protocol.specs.declared.Received.{Received}
@@ -27,14 +24,6 @@ use Rattle.protocol.specs.declared.Requested.{Requested}
 use Rattle.protocol.specs.Call.{Call, own, peer, forget, Indication, invoked, resulted, erred, rejectedU, rejectedP, Refusal, plain, rejecting, Answer, accepted, refused, writtenBy, stateAfter}
 
 -- ---- ids
-
-abbrev pub readOwnLink : OwnLink → Number
-readOwnLink (ToOwn i) = Of (i .0)
-readOwnLink NoOwn = Absent
-
-abbrev pub readPeerLink : PeerLink → Number
-readPeerLink (ToPeer i) = Of (i .0)
-readPeerLink NoPeer = Absent
 
 -- the call that forgets an invocation
 abbrev pub forgetting : Invocation → Call
@@ -74,6 +63,11 @@ readRefusal WrongProblem = plain 16
 readRefusal UnacceptableReject = plain 17
 readRefusal (Rejected i kind p) = rejecting i kind p
 readRefusal UnsoundState = plain 19
+
+-- 18 also returns the problem's kind and number; another refusal has 0, 0
+abbrev pub refusalProblem : Refusal → Problem
+refusalProblem (plain n) = record { kind = 0; number = 0 }
+refusalProblem (rejecting i kind problem) = record { kind = kind; number = problem }
 
 -- ---- answers: with the state and the octets written beside
 

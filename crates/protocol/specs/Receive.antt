@@ -15,6 +15,7 @@ use Rattle.apdu.specs.declared.Number.{Number}
 use Rattle.apdu.specs.declared.Number.the-variants.{Of, Absent}
 use Rattle.apdu.specs.declared.CodeField.{CodeField}
 use Rattle.apdu.specs.declared.CodeField.the-variants.{Local, Other}
+use Rattle.apdu.specs.Field.{Part, octetsOf}
 use Rattle.apdu.specs.Parse.{CodedValue, Apdu, badlyStructured, unrecognized, mistyped, invoke, result, error, reject}
 use Rattle.protocol.specs.Call.{Indication, invoked, resulted, erred, rejectedU, rejectedP, Refusal, plain, rejecting, Answer, accepted, refused}
 use Rattle.protocol.specs.Check.{Check, answer, ownRecords, peerRecords, codeIn, isFull, classIn, isSilent, isClass, isLinked, linkedTo}
@@ -41,7 +42,7 @@ abbrev pub otherCode : Option CodedValue → Code → Bool
 otherCode none d = false
 otherCode (some b) d = not (isCodeOf (b .code) d)
 
-abbrev pub bodyValue : Option CodedValue → Option (List ℕ)
+abbrev pub bodyValue : Option CodedValue → Option Part
 bodyValue none = none
 bodyValue (some b) = some (b .value)
 
@@ -56,7 +57,7 @@ fault x p i = cond (eqb (getD x 0 0) 0xA4) (plain 17) (rejecting i 0x80 p)
 
 -- ---- step 3: Invoke
 
-unfoldable pub invokeChecks : List ℕ → State → ℕ → Number → CodeField → Option (List ℕ) → List Check
+unfoldable pub invokeChecks : List ℕ → State → ℕ → Number → CodeField → Option Part → List Check
 invokeChecks T s i l c v =
     -- duplicateInvocation: id among peer records
     problem 0x81 i 0 (member i (peerRecords s))
@@ -67,7 +68,7 @@ invokeChecks T s i l c v =
     -- unrecognizedOperation
     ∷ problem 0x81 i 1 (not (isOperation T c))
     -- mistypedArgument
-    ∷ problem 0x81 i 2 (not (valueRight (argumentOf (operationOf T (fieldCode c))) v))
+    ∷ problem 0x81 i 2 (not (valueRight (argumentOf (operationOf T (fieldCode c))) (octetsOf v)))
     -- unexpectedLinkedOperation
     ∷ problem 0x81 i 7 (isLinked l && not (childOf T (codeIn (ownRecords s) (linkedTo l)) (fieldCode c)))
     -- resourceLimitation: 32 peer records, class not 5
@@ -89,12 +90,12 @@ resultChecks T s i b =
     -- 0 again if a code is present and is not the record's
     ∷ problem 0x82 i 0 (otherCode b (codeIn (ownRecords s) i))
     -- mistypedResult
-    ∷ problem 0x82 i 2 (not (valueRight (resultOf (operationOf T (codeIn (ownRecords s) i))) (bodyValue b)))
+    ∷ problem 0x82 i 2 (not (valueRight (resultOf (operationOf T (codeIn (ownRecords s) i))) (octetsOf (bodyValue b))))
     ∷ []
 
 -- ---- step 5: Error
 
-unfoldable pub errorChecks : List ℕ → State → ℕ → CodeField → Option (List ℕ) → List Check
+unfoldable pub errorChecks : List ℕ → State → ℕ → CodeField → Option Part → List Check
 errorChecks T s i e v =
     -- unrecognizedInvocation: no own record
     problem 0x83 i 0 (not (member i (ownRecords s)))
@@ -105,7 +106,7 @@ errorChecks T s i e v =
     -- unexpectedError
     ∷ problem 0x83 i 3 (not (paired T (codeIn (ownRecords s) i) (fieldCode e)))
     -- mistypedParameter
-    ∷ problem 0x83 i 4 (not (valueRight (parameterOf (errorOf T (fieldCode e))) v))
+    ∷ problem 0x83 i 4 (not (valueRight (parameterOf (errorOf T (fieldCode e))) (octetsOf v)))
     ∷ []
 
 -- ---- Reject

@@ -1,23 +1,15 @@
 // What the six calls answer: document 01's indications and refusals. The calls' definitions stand in specs/, demand 3 in proofs/.
 use apdu::Body;
 use apdu::Number;
+use apdu::OwnLink;
 use apdu::Value;
 use records::Code;
 use records::OwnId;
 use records::PeerId;
 use records::State;
-
-// A linked id of a received Invoke names an invocation that this end made.
-pub enum OwnLink {
-    To(OwnId),
-    Absent,
-}
-
-// A linked id of an invoke request names an invocation that this end received.
-pub enum PeerLink {
-    To(PeerId),
-    Absent,
-}
+ghost use mathlib.Core.Path.{_≡_};
+ghost use Rattle.protocol.specs.Call.{refusalNumber};
+ghost use Rattle.protocol.specs.Reading.{readRefusal, refusalProblem};
 
 // The invocation to forget, on one side or the other.
 pub enum Invocation {
@@ -88,6 +80,62 @@ pub enum Refusal {
     // The Reject with these fields stands at the front of the output.
     Rejected { id: Number, kind: u8, problem: u8 },
     UnsoundState,
+}
+
+// A problem of a Reject: its kind, 80 general, 81 invoke, 82 result or 83 error (hexadecimal), and its number within the kind.
+pub struct Problem {
+    pub kind: u8,
+    pub number: u8,
+}
+
+impl Refusal {
+    // Document 01's number, 1 to 19.
+    pub fn number(self) -> u8
+        ensures { λ r. ⌜ r ≡ refusalNumber (readRefusal self) ⌝ }
+    {
+        match self {
+            Refusal::InvalidTable => 1,
+            Refusal::ShortOutput => 2,
+            Refusal::LongInput => 3,
+            Refusal::UnknownOperation => 4,
+            Refusal::IdInUse => 5,
+            Refusal::SynchronousLive => 6,
+            Refusal::UnknownLinkedId => 7,
+            Refusal::NotAChild => 8,
+            Refusal::MalformedValue => 9,
+            Refusal::MistypedValue => 10,
+            Refusal::NoRecord => 11,
+            Refusal::WrongClass => 12,
+            Refusal::UnlistedError => 13,
+            Refusal::RecordsFull => 14,
+            Refusal::LargeApdu => 15,
+            Refusal::WrongProblem => 16,
+            Refusal::UnacceptableReject => 17,
+            Refusal::Rejected {
+                id: _,
+                kind: _,
+                problem: _,
+            } => 18,
+            Refusal::UnsoundState => 19,
+        }
+    }
+
+    // The problem that the Reject of an 18 carries; another refusal has 0, 0.
+    pub fn problem(self) -> Problem
+        ensures { λ r. ⌜ r ≡ refusalProblem (readRefusal self) ⌝ }
+    {
+        match self {
+            Refusal::Rejected {
+                id: _,
+                kind,
+                problem,
+            } => Problem {
+                kind,
+                number: problem,
+            },
+            _ => Problem { kind: 0, number: 0 },
+        }
+    }
 }
 
 pub enum Reception {

@@ -7,7 +7,7 @@ use mathlib.Core.Logic.{_⊎_, inl, inr}
 use mathlib.Core.Option.{Option, some, none}
 use native.Mathlib.Omega.{arith}
 use lib.ListN.{length}
-use borrow.Author.Tests.{not-false, le-ltb}
+use borrow.Author.Tests.{le-ltb}
 use Rattle.records.specs.declared.Code.{Code}
 use Rattle.records.specs.Limits.{octets}
 use Rattle.records.specs.Records.{member}
@@ -18,6 +18,7 @@ use Rattle.optable.specs.Lookup.{Extends, operationOf, errorOf, known, paired}
 use Rattle.optable.proofs.TableLaws.{paired-known}
 use Rattle.apdu.specs.declared.Number.the-variants.{Of}
 use Rattle.apdu.specs.declared.CodeField.the-variants.{Local}
+use Rattle.apdu.specs.Field.{Part, octetsOf}
 use Rattle.apdu.specs.Parse.{CodedValue, Apdu, parse, result as Result, error as Error}
 use Rattle.apdu.proofs.RoundTrip.{bodyOf}
 use Rattle.protocol.specs.Call.{receive, rejecting, refused, isRefused}
@@ -27,14 +28,15 @@ use Rattle.protocol.specs.Perform.{laterChecks, checks, done, perform}
 use Rattle.protocol.specs.Book.{among, kiosk, Given, World}
 use Rattle.protocol.specs.Demand3.{isLive, Listed, unlistedProblem, AnswerClaim, Reaches}
 use Rattle.protocol.proofs.Checks.{Pass, pass, accepted-passes}
+use Rattle.protocol.proofs.Facts.{ArrivedError, arrived-result, arrived-error}
 use Rattle.protocol.proofs.Ids.{member-among, in-code}
 use Rattle.protocol.proofs.Coverage.{covered-in}
 use Rattle.protocol.proofs.Steady.{steady-sound, steady-usable}
 use Rattle.protocol.proofs.Invariant.{ToldResult, ToldError, Told, Inv}
-use Rattle.protocol.proofs.Claims.{body-value, same-code}
+use Rattle.protocol.proofs.Showing.{body-value, same-code}
 
 -- the code that stands beside a value is the record's
-same-beside : (c : Code) (v : Option (List ℕ)) (d : Code) → d ≡ c → otherCode (bodyOf c v) d ≡ false
+same-beside : (c : Code) (v : Option Part) (d : Code) → d ≡ c → otherCode (bodyOf c v) d ≡ false
 same-beside c none d e = refl
 same-beside c (some v) d e = rw (equal-code-same c d (sym e))
 
@@ -61,21 +63,21 @@ module _ (O N : List ℕ) (valid-O : valid O ≡ true) (extends : Extends N O) w
     result-claim : {p : Apdu} → ToldResult N p g → AnswerClaim O (w .book) g (receiveApdu O (w .kiosk) x p)
     unfolding receiveApdu resultChecks
     result-claim t = rw (t .reads) (record {
-      accepts = (λ h. (member-live w inv (g .id) (not-false (member (g .id) (ownRecords (w .kiosk))) (accepted-passes (resultChecks O (w .kiosk) (g .id) body) _ h .0)), λ e q. no-error e q), λ h. passes (live-member w inv (g .id) (h .0)));
+      accepts = (λ h. (member-live w inv (g .id) (arrived-result O (w .kiosk) (g .id) body (accepted-passes (resultChecks O (w .kiosk) (g .id) body) _ h)), λ e q. no-error e q), λ h. passes (live-member w inv (g .id) (h .0)));
       unlisted = λ e q. no-error e q;
     })
       where
         body : Option CodedValue
-        body = bodyOf (g .operation) (g .value)
+        body = bodyOf (g .operation) (t .shown)
 
         no-error : {A : Type 0} (e : Code) → g .error ≡ some e → A
         no-error e q = let u = t .error in let z : _≡_ {A = ℕ} 0 1 = cc in absurd (omega arith)
 
-        passes : member (g .id) (ownRecords (w .kiosk)) ≡ true → isRefused (receiveApdu O (w .kiosk) x (Result (g .id) (bodyOf (g .operation) (g .value)))) ≡ false
+        passes : member (g .id) (ownRecords (w .kiosk)) ≡ true → isRefused (receiveApdu O (w .kiosk) x (Result (g .id) body)) ≡ false
         passes h =
             let o = same-operation w inv (g .id) (g .operation) m h in
-            ap isRefused (pass (resultChecks O (w .kiosk) (g .id) (bodyOf (g .operation) (g .value))) _
-            (rw h, (rw (← o) (t .class), (same-beside (g .operation) (g .value) _ (same-code O N w (inv .kept) (g .id) (g .operation) m h), (rw (← o, body-value (g .operation) (g .value), t .right), tt)))))
+            ap isRefused (pass (resultChecks O (w .kiosk) (g .id) body) _
+            (rw h, (rw (← o) (t .class), (same-beside (g .operation) (t .shown) _ (same-code O N w (inv .kept) (g .id) (g .operation) m h), (rw (← o, body-value (g .operation) (t .shown), t .octets, t .right), tt)))))
 
     -- ---- errors
 
@@ -89,28 +91,28 @@ module _ (O N : List ℕ) (valid-O : valid O ≡ true) (extends : Extends N O) w
         code-is : (e : Code) → g .error ≡ some e → t .code ≡ e
         code-is e q = cc (t .error)
 
-        passed : isRefused (receiveApdu O (w .kiosk) x (Error (g .id) (Local (t .code)) (g .value))) ≡ false → Pass (errorChecks O (w .kiosk) (g .id) (Local (t .code)) (g .value))
-        passed h = accepted-passes (errorChecks O (w .kiosk) (g .id) (Local (t .code)) (g .value)) _ h
+        facts : isRefused (receiveApdu O (w .kiosk) x (Error (g .id) (Local (t .code)) (t .shown))) ≡ false → ArrivedError O (w .kiosk) (g .id) (Local (t .code))
+        facts h = arrived-error O (w .kiosk) (g .id) (Local (t .code)) (t .shown) (accepted-passes (errorChecks O (w .kiosk) (g .id) (Local (t .code)) (t .shown)) _ h)
 
-        live : isRefused (receiveApdu O (w .kiosk) x (Error (g .id) (Local (t .code)) (g .value))) ≡ false → member (g .id) (ownRecords (w .kiosk)) ≡ true
-        live h = not-false (member (g .id) (ownRecords (w .kiosk))) (passed h .0)
+        live : isRefused (receiveApdu O (w .kiosk) x (Error (g .id) (Local (t .code)) (t .shown))) ≡ false → member (g .id) (ownRecords (w .kiosk)) ≡ true
+        live h = facts h .live
 
-        listing : isRefused (receiveApdu O (w .kiosk) x (Error (g .id) (Local (t .code)) (g .value))) ≡ false → Listed O g
+        listing : isRefused (receiveApdu O (w .kiosk) x (Error (g .id) (Local (t .code)) (t .shown))) ≡ false → Listed O g
         listing h e q =
-            rw (← (same-code O N w (inv .kept) (g .id) (g .operation) m (live h)), ← (code-is e q)) (not-false (paired O (codeIn (ownRecords (w .kiosk)) (g .id)) (t .code)) (passed h .1 .1 .1 .0))
+            rw (← (same-code O N w (inv .kept) (g .id) (g .operation) m (live h)), ← (code-is e q)) (facts h .listed)
 
         class : member (g .id) (ownRecords (w .kiosk)) ≡ true → isClass 4 5 (classIn O (codeIn (ownRecords (w .kiosk)) (g .id))) ≡ false
         class h = rw (← (same-operation w inv (g .id) (g .operation) m h)) (t .class)
 
-        passes : member (g .id) (ownRecords (w .kiosk)) ≡ true → paired O (g .operation) (t .code) ≡ true → isRefused (receiveApdu O (w .kiosk) x (Error (g .id) (Local (t .code)) (g .value))) ≡ false
+        passes : member (g .id) (ownRecords (w .kiosk)) ≡ true → paired O (g .operation) (t .code) ≡ true → isRefused (receiveApdu O (w .kiosk) x (Error (g .id) (Local (t .code)) (t .shown))) ≡ false
         passes h l =
             let s = same-code O N w (inv .kept) (g .id) (g .operation) m h in
             let n = paired-known O valid-O (g .operation) (t .code) l in
-            ap isRefused (pass (errorChecks O (w .kiosk) (g .id) (Local (t .code)) (g .value)) _
-            (rw h, (class h, (rw n, (rw (s, l), (rw (← (extends .errors (t .code) n), t .right), tt))))))
+            ap isRefused (pass (errorChecks O (w .kiosk) (g .id) (Local (t .code)) (t .shown)) _
+            (rw h, (class h, (rw n, (rw (s, l), (rw (← (extends .errors (t .code) n), t .octets, t .right), tt))))))
 
         stops : (e : Code) → t .code ≡ e → member (g .id) (ownRecords (w .kiosk)) ≡ true → paired O (g .operation) e ≡ false → (b : Bool) → known (errorOf O e) ≡ b
-            → receiveApdu O (w .kiosk) x (Error (g .id) (Local (t .code)) (g .value)) ≡ refused (rejecting (Of (g .id)) 0x83 (unlistedProblem O e))
+            → receiveApdu O (w .kiosk) x (Error (g .id) (Local (t .code)) (t .shown)) ≡ refused (rejecting (Of (g .id)) 0x83 (unlistedProblem O e))
         stops e q h u true n = let s = same-code O N w (inv .kept) (g .id) (g .operation) m h in rw (q, h, class h, n, s, u)
         stops e q h u false n = rw (q, h, class h, n)
 

@@ -7,12 +7,12 @@ use mathlib.Core.Logic.{_⊎_, inl, inr}
 use mathlib.Core.Option.{Option, some, none}
 use native.Mathlib.Omega.{arith}
 use lib.Dec.{eqb}
-use borrow.Author.Tests.{not-false}
 use Rattle.records.specs.declared.Code.{Code}
 use Rattle.records.specs.declared.State.{State}
 use Rattle.records.specs.Records.{member}
 use Rattle.optable.specs.Lookup.{known}
 use Rattle.apdu.specs.declared.Number.the-variants.{Of, Absent}
+use Rattle.apdu.specs.Field.{Part, octetsOf}
 use Rattle.apdu.specs.Parse.{Apdu, badlyStructured, unrecognized, mistyped, parse, invoke as Invoke, result as Result, error as Error, reject as Reject}
 use Rattle.apdu.proofs.FirstOctet.{kindOctet, first-read}
 use Rattle.apdu.proofs.RoundTrip.{bodyOf}
@@ -23,6 +23,7 @@ use Rattle.protocol.specs.Perform.{checks, done, perform}
 use Rattle.protocol.specs.Book.{kiosk, controller, aResult, anError, Given, wired, Answered, World, shownBy}
 use Rattle.protocol.specs.Demand3.{WasGiven}
 use Rattle.protocol.proofs.Checks.{settle}
+use Rattle.protocol.proofs.Facts.{arrived-result, arrived-error}
 use Rattle.protocol.proofs.Ids.{in-code, one-code}
 use Rattle.protocol.proofs.Invariant.{NoAnswer, ToldResult, ToldError, Kept}
 
@@ -33,8 +34,8 @@ readsAs badlyStructured c = none
 readsAs unrecognized c = none
 readsAs (mistyped i) c = none
 readsAs (Invoke i l d v) c = none
-readsAs (Result i b) c = some (record { id = i; operation = c; kind = aResult; error = none; value = bodyValue b })
-readsAs (Error i e v) c = some (record { id = i; operation = c; kind = anError; error = some (fieldCode e); value = v })
+readsAs (Result i b) c = some (record { id = i; operation = c; kind = aResult; error = none; value = octetsOf (bodyValue b) })
+readsAs (Error i e v) c = some (record { id = i; operation = c; kind = anError; error = some (fieldCode e); value = octetsOf v })
 readsAs (Reject i kind p) c = none
 
 some-given : {g h : Given} → _≡_ {A = Option Given} (some g) (some h) → g ≡ h
@@ -69,14 +70,14 @@ given-made : (g : Given) {id : ℕ} {op : Code} (k : _) {e : Option Code} {v : O
     → record { id = id; operation = op; kind = k; error = e; value = v } ≡ g
 given-made g k a b c d e = λ i. record { id = sym a i; operation = sym b i; kind = sym c i; error = sym d i; value = sym e i }
 
-pub body-value : (c : Code) (v : Option (List ℕ)) → bodyValue (bodyOf c v) ≡ v
+pub body-value : (c : Code) (v : Option Part) → bodyValue (bodyOf c v) ≡ v
 body-value c none = refl
 body-value c (some v) = refl
 
 -- an answer of the book shows what was given
 told-reads : {N : List ℕ} {p : Apdu} (g : Given) → ToldResult N p g ⊎ ToldError N p g → readsAs p (g .operation) ≡ some g
-told-reads g (inl t) = rw (t .reads) (ap {B = Option Given} (λ h. some h) (given-made g aResult refl refl (t .kind) (t .error) (sym (body-value (g .operation) (g .value)))))
-told-reads g (inr t) = rw (t .reads) (ap {B = Option Given} (λ h. some h) (given-made g anError refl refl (t .kind) (t .error) refl))
+told-reads g (inl t) = rw (t .reads) (ap {B = Option Given} (λ h. some h) (given-made g aResult refl refl (t .kind) (t .error) (sym (ap octetsOf (body-value (g .operation) (t .shown)) ∙ t .octets))))
+told-reads g (inr t) = rw (t .reads) (ap {B = Option Given} (λ h. some h) (given-made g anError refl refl (t .kind) (t .error) (sym (t .octets))))
 
 -- ---- what the kiosk shows was given
 
@@ -85,7 +86,7 @@ record Shows (s : State) (p : Apdu) (g : Given) : Type 0 where
   reads : readsAs p (codeIn (ownRecords s) (g .id)) ≡ some g
 
 shows-in : (O : List ℕ) (s : State) (x : List ℕ) (p : Apdu) (g : Given) → shownBy (indicatedBy (receiveApdu O s x p)) ≡ some g → Shows s p g
-unfolding receiveApdu resultChecks errorChecks
+unfolding receiveApdu
 shows-in O s x badlyStructured g h = none-given h
 shows-in O s x unrecognized g h = none-given h
 shows-in O s x (mistyped i) g h = none-given h
@@ -93,10 +94,10 @@ shows-in O s x (Invoke i l c v) g h =
     settle (λ a. shownBy (indicatedBy a) ≡ some g → Shows s (Invoke i l c v) g) (invokeChecks O s i l c v) _ (λ _ q. none-given q) (λ _ q. none-given q) h
 shows-in O s x (Result i b) g h =
     settle (λ a. shownBy (indicatedBy a) ≡ some g → Shows s (Result i b) g) (resultChecks O s i b) _ (λ _ q. none-given q)
-    (λ p q. subst (λ (k : Given). Shows s (Result i b) k) (some-given q) (record { live = not-false (member i (ownRecords s)) (p .0); reads = refl })) h
+    (λ p q. subst (λ (k : Given). Shows s (Result i b) k) (some-given q) (record { live = arrived-result O s i b p; reads = refl })) h
 shows-in O s x (Error i e v) g h =
     settle (λ a. shownBy (indicatedBy a) ≡ some g → Shows s (Error i e v) g) (errorChecks O s i e v) _ (λ _ q. none-given q)
-    (λ p q. subst (λ (k : Given). Shows s (Error i e v) k) (some-given q) (record { live = not-false (member i (ownRecords s)) (p .0); reads = refl })) h
+    (λ p q. subst (λ (k : Given). Shows s (Error i e v) k) (some-given q) (record { live = arrived-error O s i e v p .live; reads = refl })) h
 shows-in O s x (Reject Absent kind p) g h = none-given h
 shows-in O s x (Reject (Of i) kind p) g h = none-given (sym (silent (eqb kind 0x80)) ∙ h)
   where

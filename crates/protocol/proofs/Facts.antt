@@ -1,0 +1,114 @@
+-- What the passed checks of a call give, each fact by its name; a check is found by its number, so that no law counts places in a list.
+use Prim.Native.Nat.{ℕ}
+use mathlib.Core.Path.{_≡_}
+use mathlib.Core.Bool.{true, false, not, _&&_}
+use mathlib.Core.List.{List}
+use mathlib.Core.Option.{Option}
+use borrow.Author.Tests.{not-false}
+use Rattle.base.specs.Lists.{nonEmpty}
+use Rattle.records.specs.declared.Code.{Code}
+use Rattle.records.specs.declared.State.{State}
+use Rattle.records.specs.Records.{member}
+use Rattle.optable.specs.declared.Rule.{Rule}
+use Rattle.optable.specs.Lookup.{operationOf, listed, resultOf, errorOf, parameterOf, paired, childOf}
+use Rattle.optable.specs.Value.{valueRight}
+use Rattle.apdu.specs.declared.Number.{Number}
+use Rattle.apdu.specs.declared.Number.the-variants.{Of}
+use Rattle.apdu.specs.declared.CodeField.{CodeField}
+use Rattle.apdu.specs.Field.{Part}
+use Rattle.apdu.specs.Parse.{CodedValue}
+use Rattle.apdu.specs.Encode.{encodeInvoke, encodeError, encodeReject}
+use Rattle.protocol.specs.Call.{invoke, result, error, reject}
+use Rattle.protocol.specs.Check.{ownRecords, peerRecords, codeIn, isFull, classIn, isSilent, isClass, isLinked, linkedTo, inApdu, inBody, withinLimits, tooShort}
+use Rattle.protocol.specs.Receive.{fieldCode, isOperation, invokeChecks, resultChecks, errorChecks}
+use Rattle.protocol.specs.Perform.{laterChecks, checks, resultApdu}
+use Rattle.protocol.proofs.Checks.{Pass, passed}
+
+-- ---- requests
+
+-- an APDU x, whose value v stands so many levels down, goes out
+pub record Sendable (down : ℕ) (v x : List ℕ) (room : ℕ) : Type 0 where
+  pub within : withinLimits down (nonEmpty v) x ≡ true
+  pub fits : tooShort room x ≡ false
+
+pub record InvokeFacts (T : List ℕ) (s : State) (i : ℕ) (c : Code) (l : Number) (v : List ℕ) (room : ℕ) : Type 0 where
+  pub known : listed (operationOf T c) ≡ true
+  pub new : member i (ownRecords s) ≡ false
+  pub parent : (isLinked l && not (member (linkedTo l) (peerRecords s))) ≡ false
+  pub child : (isLinked l && not (childOf T (codeIn (peerRecords s) (linkedTo l)) c)) ≡ false
+  pub vacant : (not (isSilent T c) && isFull (ownRecords s)) ≡ false
+  pub sendable : Sendable inApdu v (encodeInvoke i l c (nonEmpty v)) room
+
+-- a result or an error x: the classes a and b forbid it, and its value has a rule
+pub record AnswerFacts (T : List ℕ) (s : State) (i a b : ℕ) (rule : Rule) (down : ℕ) (v x : List ℕ) (room : ℕ) : Type 0 where
+  pub live : member i (peerRecords s) ≡ true
+  pub class : isClass a b (classIn T (codeIn (peerRecords s) i)) ≡ false
+  pub right : valueRight rule (nonEmpty v) ≡ true
+  pub sendable : Sendable down v x room
+
+module _ (T : List ℕ) (s : State) (i : ℕ) (v : List ℕ) (room : ℕ) where
+  pub invoke-facts : (c : Code) (l : Number) → Pass (checks T s (invoke i c l v room)) → InvokeFacts T s i c l v room
+  unfolding laterChecks
+  invoke-facts c l p =
+      let by = passed (checks T s (invoke i c l v room)) p in
+      record {
+        known = not-false _ (by 4);
+        new = by 5;
+        parent = by 7;
+        child = by 8;
+        vacant = by 14;
+        sendable = record { within = not-false _ (by 15); fits = by 2 };
+      }
+
+  pub result-facts : Pass (checks T s (result i v room)) → AnswerFacts T s i 3 5 (resultOf (operationOf T (codeIn (peerRecords s) i))) inBody v (resultApdu s i v) room
+  unfolding laterChecks
+  result-facts p =
+      let by = passed (checks T s (result i v room)) p in
+      record {
+        live = not-false _ (by 11);
+        class = by 12;
+        right = not-false _ (by 10);
+        sendable = record { within = not-false _ (by 15); fits = by 2 };
+      }
+
+  pub error-facts : (e : Code) → Pass (checks T s (error i e v room)) → AnswerFacts T s i 4 5 (parameterOf (errorOf T e)) inApdu v (encodeError i e (nonEmpty v)) room
+  unfolding laterChecks
+  error-facts e p =
+      let by = passed (checks T s (error i e v room)) p in
+      record {
+        live = not-false _ (by 11);
+        class = by 12;
+        right = not-false _ (by 10);
+        sendable = record { within = not-false _ (by 15); fits = by 2 };
+      }
+
+pub reject-fits : (T : List ℕ) (s : State) (i p room : ℕ) → Pass (checks T s (reject i p room)) → tooShort room (encodeReject (Of i) 0x81 p) ≡ false
+unfolding laterChecks
+reject-fits T s i p room h = passed (checks T s (reject i p room)) h 2
+
+-- ---- received APDUs
+
+pub record ArrivedInvoke (T : List ℕ) (s : State) (i : ℕ) (c : CodeField) : Type 0 where
+  pub new : member i (peerRecords s) ≡ false
+  pub known : isOperation T c ≡ true
+  pub vacant : (not (isSilent T (fieldCode c)) && isFull (peerRecords s)) ≡ false
+
+pub arrived-invoke : (T : List ℕ) (s : State) (i : ℕ) (l : Number) (c : CodeField) (v : Option Part) → Pass (invokeChecks T s i l c v) → ArrivedInvoke T s i c
+unfolding invokeChecks
+arrived-invoke T s i l c v p =
+    let by = passed (invokeChecks T s i l c v) p in
+    record { new = by 0; known = not-false _ (by 1); vacant = by 3 }
+
+pub arrived-result : (T : List ℕ) (s : State) (i : ℕ) (b : Option CodedValue) → Pass (resultChecks T s i b) → member i (ownRecords s) ≡ true
+unfolding resultChecks
+arrived-result T s i b p = not-false _ (passed (resultChecks T s i b) p 0)
+
+pub record ArrivedError (T : List ℕ) (s : State) (i : ℕ) (e : CodeField) : Type 0 where
+  pub live : member i (ownRecords s) ≡ true
+  pub listed : paired T (codeIn (ownRecords s) i) (fieldCode e) ≡ true
+
+pub arrived-error : (T : List ℕ) (s : State) (i : ℕ) (e : CodeField) (v : Option Part) → Pass (errorChecks T s i e v) → ArrivedError T s i e
+unfolding errorChecks
+arrived-error T s i e v p =
+    let by = passed (errorChecks T s i e v) p in
+    record { live = not-false _ (by 0); listed = not-false _ (by 3) }

@@ -1,0 +1,79 @@
+-- Refusals: each has one of document 01's numbers, and one that is no 18 has nothing but its number.
+use Prim.Native.Nat.{ℕ, _≤_}
+use mathlib.Core.Path.{_≡_, refl, sym, ap, _∙_}
+use mathlib.Core.Logic.{inl, inr}
+use mathlib.Core.Bool.{Bool, true, not, _&&_, false≢true}
+use mathlib.Core.List.{List, [], _∷_}
+use lib.Dec.{eqb, lit≤}
+use types.Run.{OneOf}
+use denote.Enum.Declared.{tagOf}
+use borrow.Author.Tests.{eq-eqb}
+use Rattle.base.proofs.Tests.{and-left, and-right}
+use Rattle.protocol.proofs.Refusal as refusal
+use Rattle.protocol.specs.declared.Refusal.{Refusal as Reason}
+use Rattle.protocol.specs.declared.Refusal.the-variants.{InvalidTable, ShortOutput, LongInput, UnknownOperation, IdInUse, SynchronousLive, UnknownLinkedId, NotAChild, MalformedValue, MistypedValue, NoRecord, WrongClass, UnlistedError, RecordsFull, LargeApdu, WrongProblem, UnacceptableReject, Rejected, UnsoundState}
+use Rattle.protocol.specs.Call.{plain, refusalNumber}
+use Rattle.protocol.specs.Reading.{readRefusal}
+
+-- validates `readRefusal`: a refusal carries one of document 01's numbers
+pub numbered : (why : Reason) → (1 ≤ refusalNumber (readRefusal why)) × (refusalNumber (readRefusal why) ≤ 19)
+unfolding readRefusal
+numbered InvalidTable = (lit≤ tt, lit≤ tt)
+numbered ShortOutput = (lit≤ tt, lit≤ tt)
+numbered LongInput = (lit≤ tt, lit≤ tt)
+numbered UnknownOperation = (lit≤ tt, lit≤ tt)
+numbered IdInUse = (lit≤ tt, lit≤ tt)
+numbered SynchronousLive = (lit≤ tt, lit≤ tt)
+numbered UnknownLinkedId = (lit≤ tt, lit≤ tt)
+numbered NotAChild = (lit≤ tt, lit≤ tt)
+numbered MalformedValue = (lit≤ tt, lit≤ tt)
+numbered MistypedValue = (lit≤ tt, lit≤ tt)
+numbered NoRecord = (lit≤ tt, lit≤ tt)
+numbered WrongClass = (lit≤ tt, lit≤ tt)
+numbered UnlistedError = (lit≤ tt, lit≤ tt)
+numbered RecordsFull = (lit≤ tt, lit≤ tt)
+numbered LargeApdu = (lit≤ tt, lit≤ tt)
+numbered WrongProblem = (lit≤ tt, lit≤ tt)
+numbered UnacceptableReject = (lit≤ tt, lit≤ tt)
+numbered (Rejected i k p) = (lit≤ tt, lit≤ tt)
+numbered UnsoundState = (lit≤ tt, lit≤ tt)
+
+-- ---- one that has not the tag of an 18
+
+abbrev differs : ℕ → List ℕ → Bool
+differs x [] = true
+differs x (k ∷ ks) = not (eqb x k) && differs x ks
+
+unequal : (x k : ℕ) → not (eqb x k) ≡ true → x ≡ k → ⊥
+unequal x k d e = false≢true (ap not (sym (eq-eqb x k e)) ∙ d)
+
+no-key : (k : ℕ) (ks : List ℕ) (x : ℕ) → differs x (k ∷ ks) ≡ true → OneOf (k ∷ ks) x → ⊥
+no-key k [] x d e = unequal x k (and-left (not (eqb x k)) _ d) e
+no-key k (n ∷ ks) x d (inl e) = unequal x k (and-left (not (eqb x k)) _ d) e
+no-key k (n ∷ ks) x d (inr o) = no-key n ks x (and-right (not (eqb x k)) _ d) o
+
+-- the tags of all but an 18, behind the first
+abbrev others : List ℕ
+others = 1 ∷ 2 ∷ 3 ∷ 4 ∷ 5 ∷ 6 ∷ 7 ∷ 8 ∷ 9 ∷ 10 ∷ 11 ∷ 12 ∷ 13 ∷ 14 ∷ 15 ∷ 16 ∷ 18 ∷ []
+
+pub only-rejected : (why : Reason) → OneOf (0 ∷ others) (tagOf refusal.the-type why) → readRefusal why ≡ plain (refusalNumber (readRefusal why))
+unfolding readRefusal
+only-rejected InvalidTable h = refl
+only-rejected ShortOutput h = refl
+only-rejected LongInput h = refl
+only-rejected UnknownOperation h = refl
+only-rejected IdInUse h = refl
+only-rejected SynchronousLive h = refl
+only-rejected UnknownLinkedId h = refl
+only-rejected NotAChild h = refl
+only-rejected MalformedValue h = refl
+only-rejected MistypedValue h = refl
+only-rejected NoRecord h = refl
+only-rejected WrongClass h = refl
+only-rejected UnlistedError h = refl
+only-rejected RecordsFull h = refl
+only-rejected LargeApdu h = refl
+only-rejected WrongProblem h = refl
+only-rejected UnacceptableReject h = refl
+only-rejected (Rejected i k p) h = absurd (no-key 0 others 17 refl h)
+only-rejected UnsoundState h = refl
