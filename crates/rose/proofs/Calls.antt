@@ -1,152 +1,94 @@
--- What a call answers once its checks are made.
-use Prim.Native.Nat.{ℕ, _≤_}
-use mathlib.Core.Path.{_≡_, refl, _∙_}
+-- What a call answers once its checks are made, v being the verdict on them.
+use Prim.Native.Nat.{ℕ}
 use mathlib.Core.Bool.{true}
-use mathlib.Core.List.{List, [], _++_}
-use mathlib.Core.Option.{Option, some, none}
+use mathlib.Core.Path.{_≡_, refl, sym, ap, _∙_}
+use mathlib.Core.List.{List, []}
+use mathlib.Core.Option.{none}
 use native.Mathlib.Omega.{arith}
-use lib.ListN.{length, drop}
+use lib.ListN.{length}
 use lib.Dec.{leb}
-use borrow.Author.Tests.{leb-true, le-leb, ltb-false, not-false}
+use borrow.Author.Tests.{leb-true, ltb-false}
 use Rattle.base.proofs.Tests.{and-left}
-use Rattle.records.specs.declared.Code.{Code}
 use Rattle.records.specs.declared.State.{State}
 use Rattle.records.specs.Limits.{octets}
-use Rattle.ber.specs.Element.{given}
-use Rattle.apdu.specs.declared.Number.{Number}
 use Rattle.apdu.specs.declared.Number.the-variants.{Of}
-use Rattle.apdu.specs.Encode.{encodeInvoke, encodeError, encodeReject}
+use Rattle.apdu.specs.Encode.{encodeReject, WrittenWhole}
 use Rattle.apdu.proofs.SizeLaws.{reject-most}
 use Rattle.protocol.specs.declared.Invocation.{Invocation}
 use Rattle.protocol.specs.declared.Invocation.the-variants.{Own, Peer}
-use Rattle.protocol.specs.declared.Refusal.{Refusal as Reason}
-use Rattle.protocol.specs.declared.Reception.the-variants.{Refused}
 use Rattle.protocol.specs.declared.Received.{Received}
 use Rattle.protocol.specs.declared.Requested.{Requested}
-use Rattle.protocol.specs.Call.{rejectWritten, Call, receive, invoke, result, error, reject, accepted, refused}
-use Rattle.protocol.specs.Check.{shared, withinLimits}
-use Rattle.protocol.specs.Perform.{laterChecks, checks, done, perform, resultApdu}
-use Rattle.protocol.specs.Reading.{readRefusal, readReception, readOutcome, forgetting, ReceivePromise, RequestPromise}
+use Rattle.protocol.specs.Call.{plain, Call, reject, accepted, refused}
+use Rattle.protocol.specs.Check.{withinLimits}
+use Rattle.protocol.specs.Perform.{checks, done, perform}
+use Rattle.protocol.specs.Reading.{forgetting, readOutcome, ReceivePromise, RequestPromise}
 use Rattle.protocol.proofs.Checks.{Pass}
-use Rattle.rose.specs.declared.Verdict.{Verdict}
-use Rattle.rose.specs.declared.Verdict.the-variants.{Passes, Fails}
-use Rattle.rose.specs.Verdict.{first, readVerdict, sizeChecks, refusedRequest, acceptedRequest}
-use Rattle.rose.proofs.Verdicts.{none-passes, none-answers, some-answers, first-some, first-none, verdict-fails, verdict-passes, allPlain, plain-silent}
+use Rattle.protocol.proofs.Facts.{Sendable, reject-fits}
+use Rattle.rose.specs.declared.verdict.Verdict.{Verdict}
+use Rattle.rose.specs.declared.verdict.Verdict.the-variants.{Passes, Fails}
+use Rattle.rose.specs.Steps.{Judged, isNumber, RefusedRequest, RefusedReceive, acceptedRequest, withoutInvocation}
+use Rattle.rose.proofs.Written.{Fits, whole, counts}
+use Rattle.rose.proofs.Verdicts.{none-passes, none-answers, some-answers, verdict-fails, verdict-passes, checks-plain, plain-number}
 
--- ---- a request
+module _ (T : List ℕ) (s : State) (c : Call) (v : Verdict) (g : Judged T s c v) where
+  -- ---- refused
 
-module _ (T : List ℕ) (s : State) (c : Call) (why : Reason) (a : perform T s c ≡ refused (readRefusal why)) (q : rejectWritten (readRefusal why) ≡ []) where
-  refuses : (before : List ℕ) (r : Requested) → r ≡ refusedRequest s why → RequestPromise (perform T s c) s before before r
-  unfolding readOutcome
-  refuses before r e =
-      record {
-        answers = rw (a, e) refl;
-        state = rw (a, e) refl;
-        written = record { octets = rw (a, q) refl; counted = rw (a, e, q) refl };
-      }
-
-  unheard : (x before : List ℕ) (r : Received) → r ≡ record { state = s; reception = Refused why; written = 0 } → ReceivePromise (perform T s c) s x before before r
-  unfolding readReception
-  unheard x before r e =
-      record {
-        answers = rw (a, e) refl;
-        state = rw (a, e) refl;
-        written = record { octets = rw (a, q) refl; counted = rw (a, e, q) refl };
-      }
-
-module _ (T : List ℕ) (s : State) (c : Call) (v : Verdict) (g : readVerdict v ≡ first (shared T s)) where
-  module _ (why : Reason) (e : v ≡ Fails why) where
-    fails-first : first (shared T s) ≡ some (readRefusal why)
-    fails-first = verdict-fails v (shared T s) why g e
-
-    early : perform T s c ≡ refused (readRefusal why)
+  module _ (why : ℕ) (e : v ≡ Fails why) where
+    refuses : perform T s c ≡ refused (plain why)
     unfolding perform
-    early = some-answers (checks T s c) (done T s c) (readRefusal why) (first-some (shared T s) (laterChecks T s c) (readRefusal why) fails-first)
+    refuses = some-answers (checks T s c) (done T s c) (plain why) (verdict-fails plain v (checks T s c) why g e)
 
-    early-silent : rejectWritten (readRefusal why) ≡ []
-    early-silent = plain-silent (shared T s) (readRefusal why) refl fails-first
+    numbered : isNumber why ≡ true
+    numbered = plain-number (checks T s c) why (checks-plain T s c) (verdict-fails plain v (checks T s c) why g e)
 
-    pub opening-refused : (before : List ℕ) (r : Requested) → r ≡ refusedRequest s why → RequestPromise (perform T s c) s before before r
-    opening-refused = refuses T s c why early early-silent
+    pub request-refused : (before : List ℕ) (r : Requested) → RefusedRequest s why r → RequestPromise (perform T s c) s before before r
+    request-refused before r w =
+        rw refuses (record { answers = w .outcome numbered _ _; state = w .state; written = record { octets = refl; counted = w .written } })
 
-    pub opening-unheard : (x before : List ℕ) (r : Received) → r ≡ record { state = s; reception = Refused why; written = 0 } → ReceivePromise (perform T s c) s x before before r
-    opening-unheard = unheard T s c why early early-silent
+    pub receive-refused : (x before : List ℕ) (r : Received) → RefusedReceive s why r → ReceivePromise (perform T s c) s x before before r
+    receive-refused x before r w =
+        rw refuses (record { answers = w .reception numbered x _ _; state = w .state; written = record { octets = refl; counted = w .written } })
+
+  -- ---- accepted
 
   module _ (o : v ≡ Passes) where
-    opened : first (checks T s c) ≡ first (laterChecks T s c)
-    opened = first-none (shared T s) (laterChecks T s c) (verdict-passes v (shared T s) g o)
+    pub all-pass : Pass (checks T s c)
+    all-pass = none-passes (checks T s c) (verdict-passes plain v (checks T s c) g o)
 
-    module _ (why : Reason) (h : first (laterChecks T s c) ≡ some (readRefusal why)) (p : allPlain (laterChecks T s c) ≡ true) where
-      late : perform T s c ≡ refused (readRefusal why)
-      unfolding perform
-      late = some-answers (checks T s c) (done T s c) (readRefusal why) (opened ∙ h)
-
-      pub later-refused : (before : List ℕ) (r : Requested) → r ≡ refusedRequest s why → RequestPromise (perform T s c) s before before r
-      later-refused = refuses T s c why late (plain-silent (laterChecks T s c) (readRefusal why) p h)
-
-      pub later-unheard : (x before : List ℕ) (r : Received) → r ≡ record { state = s; reception = Refused why; written = 0 } → ReceivePromise (perform T s c) s x before before r
-      later-unheard = unheard T s c why late (plain-silent (laterChecks T s c) (readRefusal why) p h)
-
-    pub all-pass : first (laterChecks T s c) ≡ none → perform T s c ≡ done T s c
+    pub performs : perform T s c ≡ done T s c
     unfolding perform
-    all-pass h = none-answers (checks T s c) (done T s c) (opened ∙ h)
+    performs = none-answers (checks T s c) (done T s c) (verdict-passes plain v (checks T s c) g o)
 
-    pub request-accepted : first (laterChecks T s c) ≡ none → (t : State) (x : List ℕ) → done T s c ≡ accepted none t x → (before after : List ℕ) (n : ℕ) → after ≡ x ++ drop (length x) before → n ≡ length x → (r : Requested) → r ≡ acceptedRequest t n → RequestPromise (perform T s c) s before after r
+    -- the octets x are written where they fit, and t is the state then
+    pub request-accepted : (t : State) (x : List ℕ) → done T s c ≡ accepted none t x → (before after : List ℕ) (n : ℕ) → Fits x before → WrittenWhole before x after n → (r : Requested) → r ≡ acceptedRequest t n
+        → RequestPromise (perform T s c) s before after r
     unfolding readOutcome
-    request-accepted h t x d before after n w k r e =
-        record {
-          answers = rw (all-pass h, d, e) refl;
-          state = rw (all-pass h, d, e) refl;
-          written = record { octets = rw (all-pass h, d) w; counted = rw (all-pass h, d, e) k };
-        }
+    request-accepted t x d before after n f w r e =
+        rw (performs, d, e) (record { answers = refl; state = refl; written = record { octets = whole before x after n w f; counted = counts before x after n w f } })
 
--- ---- what is written has room, where 15 and 2 pass
+-- ---- what is sent fits
 
-pub sized : (down : ℕ) (v : Option (List ℕ)) (x : List ℕ) (room : ℕ) → Pass (sizeChecks down v x room) → (length x ≤ octets) × (leb (length x) room ≡ true)
-unfolding withinLimits
-sized down v x room (l, (t, u)) = (leb-true (length x) octets (and-left (leb (length x) octets) _ (not-false _ l)), le-leb (length x) room (ltb-false room (length x) t))
+module _ (down : ℕ) (v x before : List ℕ) (k : Sendable down v x (length before)) where
+  pub sent-fits : Fits x before
+  unfolding withinLimits
+  sent-fits = record {
+    small = leb-true (length x) octets (and-left (leb (length x) octets) _ (k .within));
+    room = ltb-false (length before) (length x) (k .fits);
+  }
 
-module _ (T : List ℕ) (s : State) (i : ℕ) (v : List ℕ) (room : ℕ) where
-  pub invoke-fits : (c : Code) (l : Number) → first (laterChecks T s (invoke i c l v room)) ≡ none → (length (encodeInvoke i l c (given v)) ≤ octets) × (leb (length (encodeInvoke i l c (given v))) room ≡ true)
-  unfolding laterChecks
-  invoke-fits c l h = sized 1 (given v) (encodeInvoke i l c (given v)) room (none-passes (laterChecks T s (invoke i c l v room)) h .1 .1 .1 .1 .1 .1 .1 .1)
+pub reject-sent : (T : List ℕ) (s : State) (i p : ℕ) (before : List ℕ) → Pass (checks T s (reject i p (length before))) → Fits (encodeReject (Of i) 0x81 p) before
+reject-sent T s i p before h = record {
+  small = omega (arith, reject-most (Of i) 0x81 p);
+  room = ltb-false (length before) (length (encodeReject (Of i) 0x81 p)) (reject-fits T s i p (length before) h);
+}
 
-  pub result-fits : first (laterChecks T s (result i v room)) ≡ none → (length (resultApdu s i v) ≤ octets) × (leb (length (resultApdu s i v)) room ≡ true)
-  unfolding laterChecks
-  result-fits h = sized 2 (given v) (resultApdu s i v) room (none-passes (laterChecks T s (result i v room)) h .1 .1 .1 .1)
+-- ---- forget writes nothing
 
-  pub error-fits : (c : Code) → first (laterChecks T s (error i c v room)) ≡ none → (length (encodeError i c (given v)) ≤ octets) × (leb (length (encodeError i c (given v))) room ≡ true)
-  unfolding laterChecks
-  error-fits c h = sized 1 (given v) (encodeError i c (given v)) room (none-passes (laterChecks T s (error i c v room)) h .1 .1 .1 .1 .1)
-
-  pub reject-fits : (p : ℕ) → first (laterChecks T s (reject i p room)) ≡ none → (length (encodeReject (Of i) 0x81 p) ≤ octets) × (leb (length (encodeReject (Of i) 0x81 p)) room ≡ true)
-  unfolding laterChecks
-  reject-fits p h = (omega (arith, reject-most (Of i) 0x81 p), le-leb (length (encodeReject (Of i) 0x81 p)) room (ltb-false room _ (none-passes (laterChecks T s (reject i p room)) h .1 .1 .0)))
-
--- ---- no check of a call's own writes a Reject
-
-module _ (T : List ℕ) (s : State) (i : ℕ) (v : List ℕ) (room : ℕ) where
-  pub invoke-plain : (c : Code) (l : Number) → allPlain (laterChecks T s (invoke i c l v room)) ≡ true
-  unfolding laterChecks
-  invoke-plain c l = refl
-
-  pub result-plain : allPlain (laterChecks T s (result i v room)) ≡ true
-  unfolding laterChecks
-  result-plain = refl
-
-  pub error-plain : (c : Code) → allPlain (laterChecks T s (error i c v room)) ≡ true
-  unfolding laterChecks
-  error-plain c = refl
-
-  pub reject-plain : (p : ℕ) → allPlain (laterChecks T s (reject i p room)) ≡ true
-  unfolding laterChecks
-  reject-plain p = refl
-
-  pub receive-plain : allPlain (laterChecks T s (receive v room)) ≡ true
-  unfolding laterChecks
-  receive-plain = refl
-
-pub forget-plain : (T : List ℕ) (s : State) (n : Invocation) → allPlain (laterChecks T s (forgetting n)) ≡ true
-unfolding laterChecks
-forget-plain T s (Own i) = refl
-forget-plain T s (Peer i) = refl
+pub forget-accepted : (T : List ℕ) (s : State) (n : Invocation) (v : Verdict) → Judged T s (forgetting n) v → v ≡ Passes → (t : State) → t ≡ withoutInvocation s n → (r : Requested) → r ≡ acceptedRequest t 0 → RequestPromise (perform T s (forgetting n)) s [] [] r
+unfolding done
+forget-accepted T s n v g o t e r q =
+    request-accepted T s (forgetting n) v g o t [] (is-done n ∙ ap (λ (u : State). accepted none u []) (sym e)) [] [] 0 (record { small = omega arith; room = omega arith }) (record { output = refl; count = refl }) r q
+  where
+    is-done : (n : Invocation) → done T s (forgetting n) ≡ accepted none (withoutInvocation s n) []
+    is-done (Own i) = refl
+    is-done (Peer i) = refl

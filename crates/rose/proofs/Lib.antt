@@ -1,14 +1,7 @@
 mod Verdicts
 mod UsableAnswers
 mod PartAnswers
-mod RequestAnswers
-mod ForgetAnswers
-mod LinkedAnswers
-mod ArrivalAnswers
-mod ReturnAnswers
 mod Arrivals
-mod ByKind
 mod Written
 mod Calls
 mod Receiving
-mod Requests

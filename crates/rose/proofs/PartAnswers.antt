@@ -1,43 +1,39 @@
--- What each way through the shared parts of request.rt answers: the linked id, the value and the size.
-use Prim.Native.Nat.{ℕ, _+_, _-_, _≤_, _<_}
-use mathlib.Core.Path.{_≡_, refl, sym, ap, _∙_}
-use mathlib.Core.Bool.{Bool, true, false}
+-- What the tests of a check say, as its definition asks it.
+use Prim.Native.Nat.{ℕ, _+_, _-_}
+use mathlib.Core.Path.{_≡_, refl, ap}
+use mathlib.Core.Bool.{Bool, true, false, not, _&&_}
 use mathlib.Core.List.{List, [], _∷_}
 use mathlib.Core.Option.{Option, some, none}
 use native.Mathlib.Omega.{arith}
 use lib.ListN.{length}
 use lib.Dec.{leb}
-use borrow.Author.Tests.{lt-leb, le-leb, lt-ltb, le-ltb, leb-true, leb-false}
-use Rattle.base.proofs.Tests.{and-false-left, and-false-right}
+use borrow.Author.Tests.{leb-true, leb-false}
 use Rattle.records.specs.declared.Code.{Code}
-use Rattle.records.specs.declared.PeerId.{PeerId}
-use Rattle.records.specs.declared.State.{State}
-use Rattle.records.specs.Limits.{octets, levels}
+use Rattle.records.specs.declared.Record.{Record}
+use Rattle.records.specs.Limits.{levels}
 use Rattle.records.specs.Records.{member}
-use Rattle.optable.specs.declared.Rule.{Rule}
-use Rattle.optable.specs.Lookup.{childOf}
-use Rattle.optable.specs.Value.{valueRight}
-use Rattle.ber.specs.Element.{given, wellFormed}
+use Rattle.optable.specs.Lookup.{operationOf, listed, errorOf, known, childOf, hasChild}
+use Rattle.base.specs.Lists.{nonEmpty}
+use Rattle.ber.specs.Element.{wellFormed}
 use Rattle.ber.proofs.Locality.{well-formed-more}
+use Rattle.apdu.specs.declared.Number.{Number}
 use Rattle.apdu.specs.declared.Number.the-variants.{Of, Absent}
-use Rattle.protocol.specs.declared.Refusal.the-variants.{ShortOutput, UnknownLinkedId, NotAChild, MalformedValue, MistypedValue, LargeApdu}
-use Rattle.protocol.specs.Check.{peerRecords, codeIn, valueWell, withinLimits}
-use Rattle.protocol.specs.declared.PeerLink.{PeerLink}
-use Rattle.protocol.specs.declared.PeerLink.the-variants.{To, Absent as NoPeer}
-use Rattle.protocol.specs.Reading.{readRefusal, readPeerLink}
-use Rattle.rose.specs.declared.Verdict.{Verdict}
-use Rattle.rose.specs.declared.Verdict.the-variants.{Passes, Fails}
-use Rattle.rose.specs.Verdict.{first, readVerdict, linkedChecks, valueChecks, sizeChecks}
+use Rattle.apdu.specs.declared.CodeField.{CodeField}
+use Rattle.apdu.specs.declared.CodeField.the-variants.{Local, Other}
+use Rattle.protocol.specs.Check.{codeIn, isLinked, linkedTo, valueWell}
+use Rattle.protocol.specs.Receive.{fieldCode, isOperation, isError}
+use Rattle.rose.specs.Steps.{isLocal, parentIn, missing, childless, noChild}
+use Rattle.rose.proofs.UsableAnswers.{found-member}
 
 -- ---- a value, empty for none
 
-pub well-none : (d : ℕ) (v : List ℕ) → length v ≡ 0 → true ≡ valueWell d (given v)
-unfolding valueWell given
+pub well-none : (d : ℕ) (v : List ℕ) → length v ≡ 0 → true ≡ valueWell d (nonEmpty v)
+unfolding valueWell nonEmpty
 well-none d [] e = refl
 well-none d (b ∷ v) e = absurd (omega (arith, e))
 
-pub well-some : (d : ℕ) (v : List ℕ) → (length v ≡ 0 → ⊥) → wellFormed d v ≡ valueWell d (given v)
-unfolding valueWell given
+pub well-some : (d : ℕ) (v : List ℕ) → (length v ≡ 0 → ⊥) → wellFormed d v ≡ valueWell d (nonEmpty v)
+unfolding valueWell nonEmpty
 well-some d [] h = absurd (h refl)
 well-some d (b ∷ v) h = refl
 
@@ -57,72 +53,27 @@ well-at-all down (some v) h = go (leb down levels) refl
         let q : levels - down + levels ≡ levels = omega arith in
         rw q at (well-formed-more (levels - down) levels v h)
 
--- ---- 7 and 8
+-- ---- a code of another form is none of the table's
 
-module _ (T : List ℕ) (s : State) (c : Code) where
-  not-linked : readVerdict Passes ≡ first (linkedChecks T s Absent c)
-  unfolding readVerdict
-  not-linked = refl
+pub operation-is : (T : List ℕ) (c : CodeField) → (isLocal c && listed (operationOf T (fieldCode c))) ≡ isOperation T c
+operation-is T (Local c) = refl
+operation-is T Other = refl
 
-  module _ (i : ℕ) where
-    pub no-parent : member i (peerRecords s) ≡ false → readVerdict (Fails UnknownLinkedId) ≡ first (linkedChecks T s (Of i) c)
-    unfolding readVerdict readRefusal
-    no-parent h = rw h refl
+pub error-is : (T : List ℕ) (c : CodeField) → (isLocal c && known (errorOf T (fieldCode c))) ≡ isError T c
+error-is T (Local c) = refl
+error-is T Other = refl
 
-    pub no-child : member i (peerRecords s) ≡ true → childOf T (codeIn (peerRecords s) i) c ≡ false → readVerdict (Fails NotAChild) ≡ first (linkedChecks T s (Of i) c)
-    unfolding readVerdict readRefusal
-    no-child h k = rw (h, k) refl
+-- ---- a linked id's parent, among the records l
 
-    pub child-linked : member i (peerRecords s) ≡ true → childOf T (codeIn (peerRecords s) i) c ≡ true → readVerdict Passes ≡ first (linkedChecks T s (Of i) c)
-    unfolding readVerdict
-    child-linked h k = rw (h, k) refl
+module _ (l : List Record) where
+  pub missing-is : (n : Number) → missing (parentIn n l) ≡ (isLinked n && not (member (linkedTo n) l))
+  missing-is Absent = refl
+  missing-is (Of i) = ap not (found-member i l)
 
--- the linked id as it is given
-pub linked-to : (T : List ℕ) (s : State) (c : Code) (l : PeerLink) (i : PeerId) (r : Verdict) → l ≡ To i → readVerdict r ≡ first (linkedChecks T s (Of (i .0)) c) → readVerdict r ≡ first (linkedChecks T s (readPeerLink l) c)
-linked-to T s c l i r e q = q ∙ ap (λ (k : PeerLink). first (linkedChecks T s (readPeerLink k) c)) (sym e)
+  pub childless-is : (T : List ℕ) (n : Number) → childless T (parentIn n l) ≡ (isLinked n && not (hasChild T (codeIn l (linkedTo n))))
+  childless-is T Absent = refl
+  childless-is T (Of i) = refl
 
-pub linked-none : (T : List ℕ) (s : State) (c : Code) (l : PeerLink) → l ≡ NoPeer → readVerdict Passes ≡ first (linkedChecks T s (readPeerLink l) c)
-linked-none T s c l e = not-linked T s c ∙ ap (λ (k : PeerLink). first (linkedChecks T s (readPeerLink k) c)) (sym e)
-
--- ---- 9 and 10
-
-module _ (r : Rule) (v : Option (List ℕ)) where
-  pub malformed : valueWell levels v ≡ false → readVerdict (Fails MalformedValue) ≡ first (valueChecks r v)
-  unfolding readVerdict readRefusal
-  malformed h = rw h refl
-
-  pub mistyped-value : valueWell levels v ≡ true → valueRight r v ≡ false → readVerdict (Fails MistypedValue) ≡ first (valueChecks r v)
-  unfolding readVerdict readRefusal
-  mistyped-value h k = rw (h, k) refl
-
-  pub right-value : valueWell levels v ≡ true → valueRight r v ≡ true → readVerdict Passes ≡ first (valueChecks r v)
-  unfolding readVerdict
-  right-value h k = rw (h, k) refl
-
--- ---- 15 and 2
-
-module _ (down : ℕ) (v : Option (List ℕ)) (size room : ℕ) (x : List ℕ) (e : size ≡ length x) where
-  past-limits : withinLimits down v x ≡ false → readVerdict (Fails LargeApdu) ≡ first (sizeChecks down v x room)
-  unfolding readVerdict readRefusal
-  past-limits h = rw h refl
-
-  pub too-large : octets < size → readVerdict (Fails LargeApdu) ≡ first (sizeChecks down v x room)
-  unfolding withinLimits
-  too-large h = past-limits (and-false-left (leb (length x) octets) _ (lt-leb (length x) octets (omega arith)))
-
-  pub too-deep : valueWell (levels - down) v ≡ false → readVerdict (Fails LargeApdu) ≡ first (sizeChecks down v x room)
-  unfolding withinLimits
-  too-deep h = past-limits (and-false-right (leb (length x) octets) _ h)
-
-  module _ (h : size ≤ octets) (k : valueWell (levels - down) v ≡ true) where
-    within : withinLimits down v x ≡ true
-    unfolding withinLimits
-    within = rw (le-leb (length x) octets (omega arith), k) refl
-
-    pub too-short : room < size → readVerdict (Fails ShortOutput) ≡ first (sizeChecks down v x room)
-    unfolding readVerdict readRefusal
-    too-short q = rw (within, lt-ltb room (length x) (omega arith)) refl
-
-    pub fits : size ≤ room → readVerdict Passes ≡ first (sizeChecks down v x room)
-    unfolding readVerdict
-    fits q = rw (within, le-ltb room (length x) (omega arith)) refl
+  pub no-child-is : (T : List ℕ) (n : Number) (c : Code) → noChild T (parentIn n l) c ≡ (isLinked n && not (childOf T (codeIn l (linkedTo n)) c))
+  no-child-is T Absent c = refl
+  no-child-is T (Of i) c = refl

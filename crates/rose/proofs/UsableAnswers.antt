@@ -3,11 +3,10 @@ use Prim.Native.Nat.{ℕ, _+_, _≤_, _<_}
 use mathlib.Core.Path.{_≡_, refl, sym, ap, _∙_}
 use mathlib.Core.Bool.{Bool, true, false, cond, _&&_, _||_}
 use mathlib.Core.List.{List, [], _∷_}
-use mathlib.Core.Option.{none}
 use lib.ListN.{length, drop, getD, drop-of-length-le}
 use lib.Dec.{eqb}
-use borrow.Author.Tests.{eq-eqb, ne-eqb, not-false}
-use Rattle.base.proofs.Tests.{cond-true, cond-false, and-left, and-false-left, and-false-right}
+use borrow.Author.Tests.{eq-eqb, ne-eqb}
+use Rattle.base.proofs.Tests.{cond-true, cond-false}
 use Rattle.records.specs.declared.Code.{Code}
 use Rattle.records.specs.declared.Record.{Record}
 use Rattle.records.specs.declared.Records.{Records}
@@ -15,21 +14,16 @@ use Rattle.records.specs.declared.State.{State}
 use Rattle.records.specs.declared.Found.{Found}
 use Rattle.records.specs.declared.Found.the-variants.{Operation}
 use Rattle.records.specs.Records.{unused, view, member, lookup}
-use Rattle.records.specs.State.{soundState}
 use Rattle.records.proofs.Steps.{left-at}
 use Rattle.optable.specs.declared.Operation.{Operation as Named}
 use Rattle.optable.specs.Validity.{valid}
 use Rattle.optable.specs.Lookup.{operationOf, listed, classOf}
-use Rattle.protocol.specs.declared.Refusal.the-variants.{InvalidTable, UnsoundState}
-use Rattle.protocol.specs.Check.{covered, usable, isBusy, isSilent, shared, ownRecords, peerRecords}
-use Rattle.protocol.specs.Reading.{readRefusal}
-use Rattle.rose.proofs.Verdicts.{none-passes}
-use Rattle.rose.specs.declared.Verdict.the-variants.{Passes, Fails}
-use Rattle.rose.specs.Verdict.{first, readVerdict, isFound}
+use Rattle.protocol.specs.Check.{covered, usable, isBusy, isSilent, ownRecords, peerRecords}
+use Rattle.rose.specs.Steps.{isFound}
 
 -- ---- a record found is a member
 
-found-member : (n : ℕ) (l : List Record) → isFound (lookup n l) ≡ member n l
+pub found-member : (n : ℕ) (l : List Record) → isFound (lookup n l) ≡ member n l
 found-member n [] = refl
 found-member n (r ∷ l) = go (eqb (r .id) n) (found-member n l)
   where
@@ -68,49 +62,15 @@ covered-end T l i h = ap (covered T) (drop-of-length-le l h)
 pub busy-end : (T : List ℕ) (l : List Record) (i : ℕ) → length l ≤ i → isBusy T (drop i l) ≡ false
 busy-end T l i h = ap (isBusy T) (drop-of-length-le l h)
 
--- ---- 19 and 1
+-- ---- 1
 
-module _ (T : List ℕ) (s : State) where
-  not-valid : valid T ≡ false → usable T s ≡ false
-  unfolding usable
-  not-valid v = and-false-left (valid T) _ v
-
-  not-own : covered T (ownRecords s) ≡ false → usable T s ≡ false
-  unfolding usable
-  not-own o = and-false-right (valid T) _ (and-false-left (covered T (ownRecords s)) _ o)
-
-  not-peer : covered T (peerRecords s) ≡ false → usable T s ≡ false
-  unfolding usable
-  not-peer q = and-false-right (valid T) _ (and-false-right (covered T (ownRecords s)) _ q)
-
-  pub unsound : soundState s ≡ false → readVerdict (Fails UnsoundState) ≡ first (shared T s)
-  unfolding readVerdict readRefusal
-  unsound h = rw h refl
-
-  module _ (h : soundState s ≡ true) where
-    unusable : usable T s ≡ false → readVerdict (Fails InvalidTable) ≡ first (shared T s)
-    unfolding readVerdict readRefusal
-    unusable u = rw (h, u) refl
-
-    pub invalid : valid T ≡ false → readVerdict (Fails InvalidTable) ≡ first (shared T s)
-    invalid v = unusable (not-valid v)
-
-    module _ (v : valid T ≡ true) where
-      pub own-lacking : covered T (ownRecords s) ≡ false → readVerdict (Fails InvalidTable) ≡ first (shared T s)
-      own-lacking o = unusable (not-own o)
-
-      module _ (o : covered T (ownRecords s) ≡ true) where
-        pub peer-lacking : covered T (peerRecords s) ≡ false → readVerdict (Fails InvalidTable) ≡ first (shared T s)
-        peer-lacking q = unusable (not-peer q)
-
-        pub all-clear : covered T (peerRecords s) ≡ true → readVerdict Passes ≡ first (shared T s)
-        unfolding readVerdict usable
-        all-clear q = rw (h, v, o, q) refl
-
--- and back: where neither is given the table is valid
-pub opened-valid : (T : List ℕ) (s : State) → first (shared T s) ≡ none → valid T ≡ true
+pub not-usable : (T : List ℕ) (s : State) → valid T ≡ false → usable T s ≡ false
 unfolding usable
-opened-valid T s e = and-left _ _ (not-false (valid T && (covered T (ownRecords s) && covered T (peerRecords s))) (none-passes (shared T s) e .1 .0))
+not-usable T s v = rw v refl
+
+pub usable-is : (T : List ℕ) (s : State) → valid T ≡ true → (covered T (ownRecords s) && covered T (peerRecords s)) ≡ usable T s
+unfolding usable
+usable-is T s v = rw v refl
 
 -- ---- a record more, unless the class makes none
 

@@ -1,19 +1,24 @@
 -- The first check that fails decides a call's answer.
-use Prim.Native.Nat.{ℕ}
+use Prim.Native.Nat.{ℕ, zero, suc, _≤_, _<_}
 use mathlib.Core.Path.{_≡_, refl, sym, subst, ap, _∙_}
-use mathlib.Core.Bool.{Bool, true, false, cond, _&&_, false≢true}
+use mathlib.Core.Logic.{_⊎_, inl, inr}
+use mathlib.Core.Bool.{Bool, true, false, cond, _&&_}
 use mathlib.Core.List.{List, [], _∷_, _++_}
-use mathlib.Core.Option.{Option, some, none}
+use mathlib.Core.Option.{Option, some, none, orElse}
 use native.Mathlib.Omega.{arith}
-use Rattle.base.proofs.Tests.{and-left, and-right}
-use Rattle.protocol.specs.Call.{Refusal, plain, rejecting, rejectWritten, Answer, refused}
-use Rattle.protocol.specs.Check.{Check, answer}
-use Rattle.protocol.proofs.Checks.{Pass, pass}
-use Rattle.protocol.specs.declared.Refusal.{Refusal as Reason}
-use Rattle.protocol.specs.Reading.{readRefusal}
-use Rattle.rose.specs.declared.Verdict.{Verdict}
-use Rattle.rose.specs.declared.Verdict.the-variants.{Passes, Fails}
-use Rattle.rose.specs.Verdict.{first, readVerdict, isFailing}
+use lib.Dec.{eqb, leb}
+use types.Run.{OneOf}
+use borrow.Author.Tests.{leb-true, eqb-true, not-false}
+use Rattle.base.proofs.Tests.{and-left, and-right, or-cases}
+use Rattle.records.specs.declared.State.{State}
+use Rattle.optable.specs.Validity.{valid}
+use Rattle.protocol.specs.Call.{own, peer, Call, receive, invoke, result, error, reject, forget, Refusal, plain, rejecting, Answer, refused}
+use Rattle.protocol.specs.Check.{Check, answer, usable, shared}
+use Rattle.protocol.specs.Perform.{laterChecks, checks}
+use Rattle.protocol.proofs.Checks.{Pass, pass, passed}
+use Rattle.rose.specs.declared.verdict.Verdict.{Verdict}
+use Rattle.rose.specs.declared.verdict.Verdict.the-variants.{Passes, Fails}
+use Rattle.rose.specs.Steps.{first, readVerdict, oneMore, Opened, Judged, isNumber}
 
 some-none : {A : Type 0} {r : Refusal} → _≡_ {A = Option Refusal} (some r) none → A
 some-none {A} {r} e = let z : _≡_ {A = ℕ} 0 1 = cc in absurd (omega arith)
@@ -40,78 +45,119 @@ some-answers (c ∷ cs) a r e = go (c .fails) e (some-answers cs a r)
 
 -- ---- one list behind the other
 
-pub first-some : (cs ds : List Check) (r : Refusal) → first cs ≡ some r → first (cs ++ ds) ≡ some r
-first-some [] ds r e = some-none (sym e)
-first-some (c ∷ cs) ds r e = go (c .fails) e (first-some cs ds r)
+pub first-append : (cs ds : List Check) → first (cs ++ ds) ≡ orElse (first cs) (first ds)
+unfolding orElse
+first-append [] ds = refl
+first-append (c ∷ cs) ds = go (c .fails) (first-append cs ds)
   where
-    go : (b : Bool) → cond b (some (c .why)) (first cs) ≡ some r → (first cs ≡ some r → first (cs ++ ds) ≡ some r) → cond b (some (c .why)) (first (cs ++ ds)) ≡ some r
-    go true h ih = h
-    go false h ih = ih h
-
-pub first-none : (cs ds : List Check) → first cs ≡ none → first (cs ++ ds) ≡ first ds
-first-none [] ds e = refl
-first-none (c ∷ cs) ds e = go (c .fails) e (first-none cs ds)
-  where
-    go : (b : Bool) → cond b (some (c .why)) (first cs) ≡ none → (first cs ≡ none → first (cs ++ ds) ≡ first ds) → cond b (some (c .why)) (first (cs ++ ds)) ≡ first ds
-    go true h ih = some-none h
-    go false h ih = ih h
+    go : (b : Bool) → first (cs ++ ds) ≡ orElse (first cs) (first ds) → cond b (some (c .why)) (first (cs ++ ds)) ≡ orElse (cond b (some (c .why)) (first cs)) (first ds)
+    go true e = refl
+    go false e = e
 
 -- ---- what a verdict says
 
-pub verdict-fails : (v : Verdict) (cs : List Check) (why : Reason) → readVerdict v ≡ first cs → v ≡ Fails why → first cs ≡ some (readRefusal why)
+pub verdict-fails : (F : ℕ → Refusal) (v : Verdict) (cs : List Check) (n : ℕ) → readVerdict F v ≡ first cs → v ≡ Fails n → first cs ≡ some (F n)
 unfolding readVerdict
-verdict-fails v cs why g e = sym g ∙ ap readVerdict e
+verdict-fails F v cs n g e = sym g ∙ ap (readVerdict F) e
 
-pub verdict-passes : (v : Verdict) (cs : List Check) → readVerdict v ≡ first cs → v ≡ Passes → first cs ≡ none
+pub verdict-passes : (F : ℕ → Refusal) (v : Verdict) (cs : List Check) → readVerdict F v ≡ first cs → v ≡ Passes → first cs ≡ none
 unfolding readVerdict
-verdict-passes v cs g e = sym g ∙ ap readVerdict e
+verdict-passes F v cs g e = sym g ∙ ap (readVerdict F) e
 
--- a verdict that fails is that of a longer list, and one that passes leaves the rest
-failing-longer : (v : Verdict) (cs ds : List Check) → readVerdict v ≡ first cs → isFailing v ≡ true → readVerdict v ≡ first (cs ++ ds)
-unfolding readVerdict
-failing-longer Passes cs ds e h = absurd (false≢true h)
-failing-longer (Fails why) cs ds e h = sym (first-some cs ds (readRefusal why) (sym e))
+-- where 1 passes the table is valid
+pub checks-valid : (T : List ℕ) (s : State) (c : Call) → Pass (checks T s c) → valid T ≡ true
+unfolding usable
+checks-valid T s c p = and-left (valid T) _ (not-false _ (passed (checks T s c) p 1))
 
-pub passing-none : (v : Verdict) (cs : List Check) → readVerdict v ≡ first cs → isFailing v ≡ false → first cs ≡ none
-unfolding readVerdict
-passing-none Passes cs e h = sym e
-passing-none (Fails why) cs e h = absurd (false≢true (sym h))
+opened-valid : (T : List ℕ) (s : State) → first (shared T s) ≡ none → valid T ≡ true
+unfolding usable
+opened-valid T s e = and-left (valid T) _ (not-false _ (passed (shared T s) (none-passes (shared T s) e) 1))
 
-passing-rest : (v : Verdict) (cs ds : List Check) → readVerdict v ≡ first cs → isFailing v ≡ false → first (cs ++ ds) ≡ first ds
-passing-rest v cs ds e h = first-none cs ds (passing-none v cs e h)
+-- ---- a list of checks that are made one by one
 
--- ---- a verdict of a part, where the checks before it pass and `ds` are behind it
+-- r finds what v found, or else the first of cs that fails; where v passes, P holds
+pub record Rest (P : Type 0) (F : ℕ → Refusal) (v : Verdict) (cs : List Check) (r : Verdict) : Type 0 where
+  pub says : (v ≡ Passes → P) → readVerdict F r ≡ orElse (readVerdict F v) (first cs)
 
-module _ (later : Option Refusal) (cs ds : List Check) (l : later ≡ first (cs ++ ds)) (v : Verdict) (e : readVerdict v ≡ first cs) where
-  pub stops : isFailing v ≡ true → readVerdict v ≡ later
-  stops h = failing-longer v cs ds e h ∙ sym l
+or-none : (o : Option Refusal) → o ≡ orElse o none
+unfolding orElse
+or-none none = refl
+or-none (some w) = refl
 
-  pub goes-on : isFailing v ≡ false → later ≡ first ds
-  goes-on h = l ∙ passing-rest v cs ds e h
+-- no check is left
+pub last : {P : Type 0} {F : ℕ → Refusal} {r : Verdict} → Rest P F r [] r
+last {P} {F} {r} = record { says = λ _. or-none (readVerdict F r) }
 
--- ---- refusals of requests write nothing
+fails-first : {P : Type 0} {m : ℕ} → Fails m ≡ Passes → P
+fails-first e = let z : _≡_ {A = ℕ} 0 1 = cc in absurd (omega arith)
+
+next-check : {P : Type 0} (F : ℕ → Refusal) (v w r : Verdict) (cs : List Check) (fails b : Bool) (n : ℕ) → w ≡ oneMore v fails n → (P → fails ≡ b) → Rest P F w cs r → (v ≡ Passes → P)
+    → readVerdict F r ≡ orElse (readVerdict F v) (cond b (some (F n)) (first cs))
+unfolding readVerdict oneMore orElse
+next-check F Passes w r cs fails b n e q l k = l .says (λ _. k refl) ∙ ap (λ (x : Verdict). orElse (readVerdict F x) (first cs)) e ∙ rw (q (k refl)) (decides b)
+  where
+    decides : (b : Bool) → orElse (readVerdict F (cond b (Fails n) Passes)) (first cs) ≡ cond b (some (F n)) (first cs)
+    decides true = refl
+    decides false = refl
+next-check F (Fails m) w r cs fails b n e q l k = l .says (λ z. fails-first (sym e ∙ z)) ∙ ap (λ (x : Verdict). orElse (readVerdict F x) (first cs)) e
+
+-- one check is made, whose test is the definition's where P holds
+pub made : {P : Type 0} {F : ℕ → Refusal} {v w r : Verdict} {cs : List Check} {fails b : Bool} {n : ℕ} → w ≡ oneMore v fails n → (P → fails ≡ b) → Rest P F w cs r → Rest P F v (record { why = F n; fails = b } ∷ cs) r
+made {P} {F} {v} {w} {r} {cs} {fails} {b} {n} e q l = record { says = next-check F v w r cs fails b n e q l }
+
+-- a list from its start
+pub all : {P : Type 0} (F : ℕ → Refusal) (cs : List Check) (r : Verdict) → P → Rest P F Passes cs r → readVerdict F r ≡ first cs
+unfolding readVerdict orElse
+all F cs r p l = l .says (λ _. p)
+
+-- a call's list behind 19 and 1; where these pass the table is valid
+pub judged : (T : List ℕ) (s : State) (c : Call) (v r : Verdict) → Opened T s v → Rest (valid T ≡ true) plain v (laterChecks T s c) r → Judged T s c r
+judged T s c v r o l = l .says (λ e. opened-valid T s (verdict-passes plain v (shared T s) o e)) ∙ ap (λ (f : Option Refusal). orElse f (first (laterChecks T s c))) o ∙ sym (first-append (shared T s) (laterChecks T s c))
+
+-- ---- each check of a request gives a refusal's number
 
 abbrev pub isPlain : Refusal → Bool
-isPlain (plain n) = true
+isPlain (plain n) = isNumber n
 isPlain (rejecting i kind p) = false
 
 abbrev pub allPlain : List Check → Bool
 allPlain [] = true
 allPlain (c ∷ cs) = isPlain (c .why) && allPlain cs
 
-plain-writes : (r : Refusal) → isPlain r ≡ true → rejectWritten r ≡ []
-plain-writes (plain n) h = refl
-plain-writes (rejecting i kind p) h = absurd (false≢true h)
+-- all of a call's checks do
+pub checks-plain : (T : List ℕ) (s : State) (c : Call) → allPlain (checks T s c) ≡ true
+unfolding laterChecks
+checks-plain T s (receive x room) = refl
+checks-plain T s (invoke i c l v room) = refl
+checks-plain T s (result i v room) = refl
+checks-plain T s (error i e v room) = refl
+checks-plain T s (reject i p room) = refl
+checks-plain T s (forget own i) = refl
+checks-plain T s (forget peer i) = refl
 
-pub plain-silent : (cs : List Check) (r : Refusal) → allPlain cs ≡ true → first cs ≡ some r → rejectWritten r ≡ []
-plain-silent [] r h e = some-none (sym e)
-plain-silent (c ∷ cs) r h e = go (c .fails) e (plain-silent cs r (and-right (isPlain (c .why)) _ h))
+pub plain-number : (cs : List Check) (n : ℕ) → allPlain cs ≡ true → first cs ≡ some (plain n) → isNumber n ≡ true
+plain-number [] n h e = some-none (sym e)
+plain-number (c ∷ cs) n h e = go (c .fails) e (plain-number cs n (and-right (isPlain (c .why)) _ h))
   where
-    go : (b : Bool) → cond b (some (c .why)) (first cs) ≡ some r → (first cs ≡ some r → rejectWritten r ≡ []) → rejectWritten r ≡ []
-    go true q ih = let k : c .why ≡ r = cc in subst (λ (x : Refusal). rejectWritten x ≡ []) k (plain-writes (c .why) (and-left _ _ h))
+    go : (b : Bool) → cond b (some (c .why)) (first cs) ≡ some (plain n) → (first cs ≡ some (plain n) → isNumber n ≡ true) → isNumber n ≡ true
+    go true q ih = let k : c .why ≡ plain n = cc in subst (λ (x : Refusal). isPlain x ≡ true) k (and-left _ _ h)
     go false q ih = ih q
 
--- ---- a test of what a step before has found
+lt-not-le : (k n : ℕ) → k < n → n ≤ k → ⊥
+lt-not-le k n p q = omega arith
 
-pub moved : {A B : Type 0} (F : A → B) (a b : A) (r : B) → a ≡ b → F a ≡ r → F b ≡ r
-moved F a b r e q = ap F (sym e) ∙ q
+-- none of 1 to k
+abbrev pub Past : ℕ → ℕ → Type 0
+Past zero n = Unit {0}
+Past (suc k) n = Past k n × (OneOf (suc k ∷ []) n → ⊥)
+
+past : (k n : ℕ) → Past k n → 1 ≤ n → k < n
+past zero n w h = omega arith
+past (suc k) n (w, d) h = let p = past k n w h in let q : n ≡ suc k → ⊥ = d in omega arith
+
+pub number-rest : (n : ℕ) → isNumber n ≡ true → Past 16 n → n ≡ 19
+number-rest n h w = go (or-cases (leb 1 n && leb n 16) (eqb n 19) h)
+  where
+    go : ((leb 1 n && leb n 16) ≡ true) ⊎ (eqb n 19 ≡ true) → n ≡ 19
+    go (inl e) = absurd (lt-not-le 16 n (past 16 n w (leb-true 1 n (and-left (leb 1 n) (leb n 16) e))) (leb-true n 16 (and-right (leb 1 n) (leb n 16) e)))
+    go (inr e) = eqb-true n 19 e

@@ -1,5 +1,4 @@
-// A received APDU: the problem that it is refused with, or what it is indicated as.
-use crate::Verdict;
+// A received APDU: 3 and 2, then the problem that it is refused with, or what it is indicated as.
 use crate::problem::check_error;
 use crate::problem::check_invoke;
 use crate::problem::check_result;
@@ -8,13 +7,14 @@ use crate::usable::code_found;
 use crate::usable::operation_named;
 use crate::usable::own_found;
 use crate::usable::with_peer;
+use crate::verdict::Verdict;
 use apdu::Body;
 use apdu::CodeField;
 use apdu::Number;
+use apdu::OwnLink;
 use apdu::Parsed;
 use apdu::Value;
 use protocol::Indication;
-use protocol::OwnLink;
 use protocol::Reception;
 use protocol::Refusal;
 use records::OwnId;
@@ -23,17 +23,26 @@ use records::State;
 ghost use mathlib.Core.Path.{_≡_};
 ghost use mathlib.Core.Bool.{true};
 ghost use mathlib.Core.List.{List, []};
-ghost use Prim.Native.Nat.{ℕ, _≤_};
-ghost use lib.ListN.{getD};
+ghost use Prim.Native.Nat.{ℕ};
+ghost use lib.ListN.{length, getD};
 ghost use lib.Dec.{eqb};
-ghost use Rattle.apdu.specs.declared.Number.the-variants.{Of};
-ghost use Rattle.protocol.specs.Call.{refused};
-ghost use Rattle.protocol.specs.Reading.{readOwnLink, readIndication, readReception};
+ghost use Rattle.records.specs.State.{retireOwn};
 ghost use Rattle.optable.specs.Validity.{valid};
-ghost use Rattle.apdu.specs.Parse.{invoke, result, error, reject, parse};
-ghost use Rattle.apdu.specs.Reading.{readValue, readBody, readParsed};
-ghost use Rattle.protocol.specs.Receive.{fault, rejection};
-ghost use Rattle.rose.specs.Verdict.{Arrives};
+ghost use Rattle.apdu.specs.declared.Number.the-variants.{Of};
+ghost use Rattle.apdu.specs.Parse.{invoke, result, error, parse};
+ghost use Rattle.apdu.specs.Reading.{readOwnLink, readValue, readBody, readParsed};
+ghost use Rattle.protocol.specs.declared.Refusal.the-variants.{Rejected};
+ghost use Rattle.protocol.specs.Call.{receive, refused};
+ghost use Rattle.protocol.specs.Receive.{fault};
+ghost use Rattle.protocol.specs.Reading.{readReception};
+ghost use Rattle.rose.specs.Steps.{Opened, Judged, Arrives};
+
+// The checks of receive behind 19 and 1.
+pub(crate) fn check_receive(opened: Verdict, octets: usize, room: usize) -> Verdict
+    ensures { λ r. ⌜ ((T : List ℕ) (s : State) (x : List ℕ) → Opened T s opened → octets ≡ length x → Judged T s (receive x room) r) ⌝ }
+{
+    opened.then(octets > State::OCTETS, 3).then(room < 11, 2)
+}
 
 // What becomes of a received APDU.
 pub(crate) struct Arrival {
@@ -50,6 +59,20 @@ fn refused(state: State, why: Refusal) -> Arrival
     }
 }
 
+// Refused with a problem of the received id.
+fn rejected(state: State, id: u32, kind: u8, number: u8) -> Arrival
+    ensures { λ r. ⌜ r ≡ record { state = state; reception = Reception.Refused (Rejected (Of id) kind number) } ⌝ }
+{
+    refused(
+        state,
+        Refusal::Rejected {
+            id: Number::Of(id),
+            kind,
+            problem: number,
+        },
+    )
+}
+
 fn indicated(state: State, indication: Indication) -> Arrival
     ensures { λ r. ⌜ r ≡ record { state = state; reception = Reception.Indicated indication } ⌝ }
 {
@@ -57,6 +80,14 @@ fn indicated(state: State, indication: Indication) -> Arrival
         state,
         reception: Reception::Indicated(indication),
     }
+}
+
+// Indicated, and the own record of the id is retired: an accepted result or error, or an invoke problem.
+fn concluded(state: State, id: OwnId, said: Indication) -> Arrival
+    ensures { λ r. ⌜ r ≡ record { state = retireOwn state id; reception = Reception.Indicated said } ⌝ }
+{
+    let next = state.retire_own(id);
+    indicated(next, said)
 }
 
 fn starts_reject(x: &[u8]) -> bool
@@ -85,38 +116,29 @@ fn arrive_wrong(state: State, x: &[u8], number: u8, id: Number) -> Arrival
     )
 }
 
-fn own_link(linked: Number) -> OwnLink
-    ensures { λ r. ⌜ readOwnLink r ≡ linked ⌝ }
-{
-    match linked {
-        Number::Of(id) => OwnLink::To(OwnId(id)),
-        Number::Absent => OwnLink::Absent,
-    }
-}
-
 fn arrive_invoke(
     state: State,
     table: &[u8],
     x: &[u8],
-    id: u32,
-    linked: Number,
+    id: PeerId,
+    linked: OwnLink,
     field: CodeField,
     value: Value,
 ) -> Arrival
     requires { ⌜ valid (now table) ≡ true ⌝ }
-    ensures { λ r. ⌜ Arrives (now (table .entry)) state (now (x .entry)) (invoke id linked field (readValue (now (x .entry)) value)) r ⌝ }
+    ensures { λ r. ⌜ Arrives (now (table .entry)) state (now (x .entry)) (invoke (id .0) (readOwnLink linked) field (readValue (now (x .entry)) value)) r ⌝ }
 {
     let code = field_code(field);
     let named = operation_named(table, code);
     match check_invoke(state, table, x, named, id, linked, field, value) {
-        Verdict::Fails(why) => refused(state, why),
+        Verdict::Fails(number) => rejected(state, id.0, 0x81, number),
         Verdict::Passes => {
-            let next = with_peer(state, named.class(), PeerId(id), code);
+            let next = with_peer(state, named.class(), id, code);
             indicated(
                 next,
                 Indication::Invoke {
-                    id: PeerId(id),
-                    linked: own_link(linked),
+                    id,
+                    linked,
                     code,
                     argument: value,
                 },
@@ -125,20 +147,20 @@ fn arrive_invoke(
     }
 }
 
-fn arrive_result(state: State, table: &[u8], x: &[u8], id: u32, body: Body) -> Arrival
+fn arrive_result(state: State, table: &[u8], x: &[u8], id: OwnId, body: Body) -> Arrival
     requires { ⌜ valid (now table) ≡ true ⌝ }
-    ensures { λ r. ⌜ Arrives (now (table .entry)) state (now (x .entry)) (result id (readBody (now (x .entry)) body)) r ⌝ }
+    ensures { λ r. ⌜ Arrives (now (table .entry)) state (now (x .entry)) (result (id .0) (readBody (now (x .entry)) body)) r ⌝ }
 {
-    let found = own_found(state, OwnId(id));
+    let found = own_found(state, id);
     match check_result(found, table, x, id, body) {
-        Verdict::Fails(why) => refused(state, why),
+        Verdict::Fails(number) => rejected(state, id.0, 0x82, number),
         Verdict::Passes => {
             let operation = code_found(found);
-            let next = state.retire_own(OwnId(id));
-            indicated(
-                next,
+            concluded(
+                state,
+                id,
                 Indication::Result {
-                    id: OwnId(id),
+                    id,
                     body,
                     operation,
                 },
@@ -151,23 +173,23 @@ fn arrive_error(
     state: State,
     table: &[u8],
     x: &[u8],
-    id: u32,
+    id: OwnId,
     field: CodeField,
     value: Value,
 ) -> Arrival
     requires { ⌜ valid (now table) ≡ true ⌝ }
-    ensures { λ r. ⌜ Arrives (now (table .entry)) state (now (x .entry)) (error id field (readValue (now (x .entry)) value)) r ⌝ }
+    ensures { λ r. ⌜ Arrives (now (table .entry)) state (now (x .entry)) (error (id .0) field (readValue (now (x .entry)) value)) r ⌝ }
 {
-    let found = own_found(state, OwnId(id));
+    let found = own_found(state, id);
     match check_error(found, table, x, id, field, value) {
-        Verdict::Fails(why) => refused(state, why),
+        Verdict::Fails(number) => rejected(state, id.0, 0x83, number),
         Verdict::Passes => {
             let operation = code_found(found);
-            let next = state.retire_own(OwnId(id));
-            indicated(
-                next,
+            concluded(
+                state,
+                id,
                 Indication::Error {
-                    id: OwnId(id),
+                    id,
                     code: field_code(field),
                     parameter: value,
                     operation,
@@ -177,58 +199,7 @@ fn arrive_error(
     }
 }
 
-// What a Reject of an id is indicated as, by the kind of its problem.
-fn rejection(id: u32, kind: u8, number: u8) -> Indication
-    requires { ⌜ (0x80 ≤ kind) × (kind ≤ 0x83) ⌝ }
-    ensures { λ r. ⌜ ((x : List ℕ) → readIndication x r ≡ rejection (Of id) kind number) ⌝ }
-{
-    if kind == 0x80 {
-        return Indication::GeneralReject {
-            id: Number::Of(id),
-            problem: number,
-        };
-    }
-    if kind == 0x81 {
-        return Indication::InvokeRejected {
-            id: OwnId(id),
-            problem: number,
-        };
-    }
-    if kind == 0x82 {
-        return Indication::ResultRejected {
-            id: PeerId(id),
-            problem: number,
-        };
-    }
-    Indication::ErrorRejected {
-        id: PeerId(id),
-        problem: number,
-    }
-}
-
-fn arrive_reject(state: State, table: &[u8], x: &[u8], id: Number, kind: u8, number: u8) -> Arrival
-    requires { ⌜ (0x80 ≤ kind) × (kind ≤ 0x83) ⌝ }
-    ensures { λ r. ⌜ Arrives (now (table .entry)) state (now (x .entry)) (reject id kind number) r ⌝ }
-{
-    match id {
-        Number::Absent => indicated(
-            state,
-            Indication::GeneralReject {
-                id,
-                problem: number,
-            },
-        ),
-        Number::Of(i) => {
-            let said = rejection(i, kind, number);
-            if kind == 0x81 {
-                return indicated(state.retire_own(OwnId(i)), said);
-            }
-            indicated(state, said)
-        }
-    }
-}
-
-// A received APDU that was parsed, behind 19, 1, 3 and 2.
+// A received APDU that was parsed, behind 19, 1, 3 and 2. Of the Rejects only one of an Invoke retires a record.
 pub(crate) fn arrive(state: State, table: &[u8], x: &[u8], parsed: Parsed) -> Arrival
     requires { ⌜ (valid (now table) ≡ true) × (readParsed (now x) parsed ≡ parse (now x)) ⌝ }
     ensures { λ r. ⌜ Arrives (now (table .entry)) state (now (x .entry)) (parse (now (x .entry))) r ⌝ }
@@ -245,6 +216,17 @@ pub(crate) fn arrive(state: State, table: &[u8], x: &[u8], parsed: Parsed) -> Ar
         } => arrive_invoke(state, table, x, id, linked, code, value),
         Parsed::Result { id, body } => arrive_result(state, table, x, id, body),
         Parsed::Error { id, code, value } => arrive_error(state, table, x, id, code, value),
-        Parsed::Reject { id, kind, problem } => arrive_reject(state, table, x, id, kind, problem),
+        Parsed::InvokeReject { id, problem } => {
+            concluded(state, id, Indication::InvokeRejected { id, problem })
+        }
+        Parsed::ResultReject { id, problem } => {
+            indicated(state, Indication::ResultRejected { id, problem })
+        }
+        Parsed::ErrorReject { id, problem } => {
+            indicated(state, Indication::ErrorRejected { id, problem })
+        }
+        Parsed::GeneralReject { id, problem } => {
+            indicated(state, Indication::GeneralReject { id, problem })
+        }
     }
 }

@@ -1,55 +1,47 @@
-// The checks of forget behind 19 and 1, and the state without the record.
-use crate::Verdict;
+// The checks of forget, which go on from the verdict on 19 and 1, and the state without the record.
 use crate::usable::code_found;
 use crate::usable::has_own;
 use crate::usable::is_class;
 use crate::usable::is_found;
 use crate::usable::operation_named;
 use crate::usable::peer_found;
+use crate::verdict::Verdict;
 use protocol::Invocation;
-use protocol::Refusal;
 use records::OwnId;
 use records::PeerId;
 use records::State;
 ghost use mathlib.Core.Path.{_≡_};
-ghost use mathlib.Core.Bool.{true};
-ghost use Rattle.optable.specs.Validity.{valid};
 ghost use Rattle.protocol.specs.Call.{forget, own, peer};
-ghost use Rattle.protocol.specs.Perform.{laterChecks};
 ghost use Rattle.protocol.specs.Reading.{forgetting};
-ghost use Rattle.rose.specs.Verdict.{first, readVerdict, withoutInvocation};
+ghost use Rattle.rose.specs.Steps.{Opened, Judged, withoutInvocation};
 
-fn check_forget_peer(state: State, table: &[u8], id: PeerId) -> Verdict
-    requires { ⌜ valid (now table) ≡ true ⌝ }
-    ensures { λ r. ⌜ readVerdict r ≡ first (laterChecks (now (table .entry)) state (forget peer (id .0))) ⌝ }
+fn check_forget_peer(opened: Verdict, state: State, table: &[u8], id: PeerId) -> Verdict
+    ensures { λ r. ⌜ (Opened (now (table .entry)) state opened → Judged (now (table .entry)) state (forget peer (id .0)) r) ⌝ }
 {
     let found = peer_found(state, id);
-    if !is_found(found) {
-        return Verdict::Fails(Refusal::NoRecord);
-    }
     let used = operation_named(table, code_found(found));
-    if is_class(1, 2, used.class()) {
-        return Verdict::Fails(Refusal::WrongClass);
-    }
-    Verdict::Passes
+    opened
+        .then(!is_found(found), 11)
+        .then(is_class(1, 2, used.class()), 12)
 }
 
-fn check_forget_own(state: State, table: &[u8], id: OwnId) -> Verdict
-    ensures { λ r. ⌜ readVerdict r ≡ first (laterChecks (now (table .entry)) state (forget own (id .0))) ⌝ }
+fn check_forget_own(opened: Verdict, state: State, table: &[u8], id: OwnId) -> Verdict
+    ensures { λ r. ⌜ (Opened (now (table .entry)) state opened → Judged (now (table .entry)) state (forget own (id .0)) r) ⌝ }
 {
-    if has_own(state, id) {
-        return Verdict::Passes;
-    }
-    Verdict::Fails(Refusal::NoRecord)
+    opened.then(!has_own(state, id), 11)
 }
 
-pub(crate) fn check_forget(state: State, table: &[u8], invocation: Invocation) -> Verdict
-    requires { ⌜ valid (now table) ≡ true ⌝ }
-    ensures { λ r. ⌜ readVerdict r ≡ first (laterChecks (now (table .entry)) state (forgetting invocation)) ⌝ }
+pub(crate) fn check_forget(
+    opened: Verdict,
+    state: State,
+    table: &[u8],
+    invocation: Invocation,
+) -> Verdict
+    ensures { λ r. ⌜ (Opened (now (table .entry)) state opened → Judged (now (table .entry)) state (forgetting invocation) r) ⌝ }
 {
     match invocation {
-        Invocation::Own(id) => check_forget_own(state, table, id),
-        Invocation::Peer(id) => check_forget_peer(state, table, id),
+        Invocation::Own(id) => check_forget_own(opened, state, table, id),
+        Invocation::Peer(id) => check_forget_peer(opened, state, table, id),
     }
 }
 

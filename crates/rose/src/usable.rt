@@ -1,11 +1,14 @@
 // What every call reads of state and table: refusals 19 and 1, classes, and records by id.
-use crate::Verdict;
+use crate::verdict::Verdict;
+use apdu::OwnLink;
+use apdu::PeerLink;
 use optable::Error;
 use optable::Operation;
 use optable::error_of;
+use optable::has_child;
+use optable::is_child;
 use optable::operation_of;
 use optable::valid;
-use protocol::Refusal;
 use records::Code;
 use records::Found;
 use records::OwnId;
@@ -20,15 +23,16 @@ ghost use Rattle.optable.specs.Validity.{valid};
 ghost use Rattle.optable.specs.Lookup.{operationOf, classOf, errorOf};
 ghost use mathlib.Core.Bool.{true, not, _&&_};
 ghost use lib.Dec.{eqb};
+ghost use Rattle.protocol.specs.Call.{plain};
+ghost use Rattle.apdu.specs.Reading.{readOwnLink, readPeerLink};
 ghost use Rattle.protocol.specs.Check.{codeFound, ownRecords, peerRecords, isClass, isFull, covered, isBusy, shared};
 ghost use Rattle.protocol.specs.Perform.{withOwn};
 ghost use Rattle.protocol.specs.Receive.{withPeer};
-ghost use Rattle.rose.specs.Verdict.{first, readVerdict, isFailing, isFound};
+ghost use Rattle.rose.specs.Steps.{first, readVerdict, isFound, parentIn, missing, childless, noChild};
 
 // The operation of a code in a valid table.
 pub(crate) fn operation_named(table: &[u8], code: Code) -> Operation
-    requires { ⌜ valid (now table) ≡ true ⌝ }
-    ensures { λ r. ⌜ r ≡ operationOf (now (table .entry)) code ⌝ }
+    ensures { λ r. ⌜ (valid (now (table .entry)) ≡ true → r ≡ operationOf (now (table .entry)) code) ⌝ }
 {
     operation_of(table, code)
 }
@@ -51,10 +55,9 @@ fn covers(table: &[u8], side: Records) -> bool
     true
 }
 
-// Whether a class 1 record of a side is live.
+// Whether a class 1 record of a side is live, by a valid table.
 pub(crate) fn is_busy(table: &[u8], side: Records) -> bool
-    requires { ⌜ valid (now table) ≡ true ⌝ }
-    ensures { λ r. ⌜ r ≡ isBusy (now (table .entry)) (view side) ⌝ }
+    ensures { λ r. ⌜ (valid (now (table .entry)) ≡ true → r ≡ isBusy (now (table .entry)) (view side)) ⌝ }
 {
     let n = side.live();
     let mut i: usize = 0;
@@ -71,23 +74,17 @@ pub(crate) fn is_busy(table: &[u8], side: Records) -> bool
 
 // 19 and 1, which come first in every call.
 pub(crate) fn opening(state: State, table: &[u8]) -> Verdict
-    ensures { λ r. ⌜ readVerdict r ≡ first (shared (now (table .entry)) state) ⌝ }
+    ensures { λ r. ⌜ readVerdict plain r ≡ first (shared (now (table .entry)) state) ⌝ }
 {
     if !state.sound() {
-        return Verdict::Fails(Refusal::UnsoundState);
+        return Verdict::Fails(19);
     }
     if !valid(table) {
-        return Verdict::Fails(Refusal::InvalidTable);
+        return Verdict::Fails(1);
     }
     let own = state.own;
-    if !covers(table, own) {
-        return Verdict::Fails(Refusal::InvalidTable);
-    }
     let peer = state.peer;
-    if !covers(table, peer) {
-        return Verdict::Fails(Refusal::InvalidTable);
-    }
-    Verdict::Passes
+    Verdict::Passes.then(!(covers(table, own) & covers(table, peer)), 1)
 }
 
 // Whether a record was found.
@@ -124,6 +121,62 @@ pub(crate) fn peer_found(state: State, id: PeerId) -> Found
 {
     let looked = state.find_peer(id);
     looked.found
+}
+
+// What a linked id leads to: nothing where none is linked, else what the lookup on its side found.
+pub(crate) enum Parent {
+    Unlinked,
+    Linked(Found),
+}
+
+// The parent of a received Invoke is an invocation that this end made.
+pub(crate) fn own_parent(state: State, linked: OwnLink) -> Parent
+    ensures { λ r. ⌜ r ≡ parentIn (readOwnLink linked) (ownRecords state) ⌝ }
+{
+    match linked {
+        OwnLink::To(id) => Parent::Linked(own_found(state, id)),
+        OwnLink::Absent => Parent::Unlinked,
+    }
+}
+
+// The parent of an invoke request is an invocation that this end received.
+pub(crate) fn peer_parent(state: State, linked: PeerLink) -> Parent
+    ensures { λ r. ⌜ r ≡ parentIn (readPeerLink linked) (peerRecords state) ⌝ }
+{
+    match linked {
+        PeerLink::To(id) => Parent::Linked(peer_found(state, id)),
+        PeerLink::Absent => Parent::Unlinked,
+    }
+}
+
+// Whether a linked id has no record.
+pub(crate) fn is_missing(parent: Parent) -> bool
+    ensures { λ r. ⌜ r ≡ missing parent ⌝ }
+{
+    match parent {
+        Parent::Linked(found) => !is_found(found),
+        Parent::Unlinked => false,
+    }
+}
+
+// Whether the operation of a parent has no child pair, by a valid table.
+pub(crate) fn is_childless(table: &[u8], parent: Parent) -> bool
+    ensures { λ r. ⌜ (valid (now (table .entry)) ≡ true → r ≡ childless (now (table .entry)) parent) ⌝ }
+{
+    match parent {
+        Parent::Linked(found) => !has_child(table, code_found(found)),
+        Parent::Unlinked => false,
+    }
+}
+
+// Whether an operation is no listed child of a parent's, by a valid table.
+pub(crate) fn is_no_child(table: &[u8], parent: Parent, code: Code) -> bool
+    ensures { λ r. ⌜ (valid (now (table .entry)) ≡ true → r ≡ noChild (now (table .entry)) parent code) ⌝ }
+{
+    match parent {
+        Parent::Linked(found) => !is_child(table, code_found(found), code),
+        Parent::Unlinked => false,
+    }
 }
 
 pub(crate) fn has_own(state: State, id: OwnId) -> bool
@@ -171,25 +224,12 @@ pub(crate) fn lacks_room(class: u8, side: Records) -> bool
 pub(crate) fn is_class(a: u8, b: u8, class: u8) -> bool
     ensures { λ r. ⌜ r ≡ isClass a b class ⌝ }
 {
-    if class == a {
-        return true;
-    }
-    class == b
+    (class == a) | (class == b)
 }
 
 // The error of a code in a valid table.
 pub(crate) fn error_named(table: &[u8], code: Code) -> Error
-    requires { ⌜ valid (now table) ≡ true ⌝ }
-    ensures { λ r. ⌜ r ≡ errorOf (now (table .entry)) code ⌝ }
+    ensures { λ r. ⌜ (valid (now (table .entry)) ≡ true → r ≡ errorOf (now (table .entry)) code) ⌝ }
 {
     error_of(table, code)
-}
-
-pub(crate) fn fails(verdict: Verdict) -> bool
-    ensures { λ r. ⌜ r ≡ isFailing verdict ⌝ }
-{
-    match verdict {
-        Verdict::Passes => false,
-        Verdict::Fails(_) => true,
-    }
 }

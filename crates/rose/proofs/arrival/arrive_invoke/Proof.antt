@@ -1,80 +1,44 @@
 -- A problem, or an indication.
-use mathlib.Core.Path.{_≡_, ap, _∙_}
+use mathlib.Core.Path.{_≡_, refl, ap, _∙_}
+use Rattle.rose.proofs.Arrivals.{has-problem, has-none, on-invoke}
 use Rattle.optable.specs.Lookup.{operationOf, classOf}
-use Rattle.rose.specs.declared.Verdict.the-variants.{Passes, Fails}
-use Rattle.rose.proofs.ByKind.{invoke-refused, invoke-indicated}
+use Rattle.apdu.specs.Parse.{invoke}
+use Rattle.apdu.specs.Reading.{readOwnLink, readValue}
+use Rattle.protocol.specs.declared.Indication.the-variants.{Invoke}
+use Rattle.protocol.specs.Receive.{invokeChecks}
+use Rattle.protocol.specs.Reading.{readIndication}
+use Rattle.rose.specs.declared.verdict.Verdict.the-variants.{Passes, Fails}
 use borrow.Author.Needs.{needs}
 use Rattle.rose.proofs.arrival.arrive_invoke.Statement.{statement}
 use Rattle.rose.proofs.arrival.arrive_invoke.Tie as tie
 
-field-code-requires : tie.Need-field-code-requires
-field-code-requires c κs = search needs
-
-operation-named-requires : tie.Need-operation-named-requires
-operation-named-requires c κs = search needs
-
 check-invoke-requires : tie.Need-check-invoke-requires
 check-invoke-requires c κs =
-    let named = c in let code = named .before in let start = code .before .before .before in
-    (start .pre, named .operation-named .ensures ∙ ap (operationOf (start .args .table .now)) (code .field-code .ensures))
+    let code = c .before in let start = code .before .before .before in
+    (start .pre, c .operation-named .ensures (start .pre) ∙ ap (operationOf (start .args .table .now)) (code .field-code .ensures))
 
-enum-known-why : tie.Need-enum-known-why
-enum-known-why c = search needs
-
-refused-requires : tie.Need-refused-requires
-refused-requires c κs = search needs
-
-enum-told : tie.Need-enum-told
-enum-told c = search needs
-
-class-requires : tie.Need-class-requires
-class-requires c κs = search needs
-
-with-peer-requires : tie.Need-with-peer-requires
-with-peer-requires c κs = search needs
-
-own-link-requires : tie.Need-own-link-requires
-own-link-requires c κs = search needs
-
-indicated-requires : tie.Need-indicated-requires
-indicated-requires c κs = search needs
-
-failed : (a : tie.After-why) → a .before .before .check-invoke .result ≡ Fails (a .why .given .0 .0)
+failed : (a : tie.After-number) → a .before .before .check-invoke .result ≡ Fails (a .number .given .0 .0)
 failed a = cc
-
-returns : tie.Need-returns
-returns c =
-    let why = c .before .before in let check-invoke = why .before .before in let start = check-invoke .before .before .before .before .before in
-    invoke-refused (start .args .table .now) (start .args .state) (start .args .x .now) (start .args .id) (start .args .linked) (start .args .field)
-    (start .args .value) (check-invoke .check-invoke .result) (check-invoke .check-invoke .ensures) _ (why .why .given .0 .0) (failed why)
-    (c .refused .ensures)
 
 passed : (a : tie.After-enum-told) → a .before .before .check-invoke .result ≡ Passes
 passed a = cc
 
+returns : tie.Need-returns
+returns c =
+    let number = c .before .before in let checked = number .before .before in let start = checked .before .before .before .before .before in
+    has-problem (start .args .table .now) (start .args .state) (start .args .x .now) (invoke (start .args .id .0) (readOwnLink (start .args .linked)) (start .args .field) (readValue (start .args .x .now) (start .args .value))) (start .args .id .0) 0x81 (invokeChecks (start .args .table .now) (start .args .state) (start .args .id .0) (readOwnLink (start .args .linked)) (start .args .field) (readValue (start .args .x .now) (start .args .value))) _
+    (on-invoke (start .args .table .now) (start .args .state) (start .args .x .now) (start .args .id .0) (readOwnLink (start .args .linked)) (start .args .field) (readValue (start .args .x .now) (start .args .value))) _ (checked .check-invoke .ensures) _ (number .number .given .0 .0) (failed number) (c .rejected .ensures)
+
 returns-2 : tie.Need-returns-2
+unfolding readIndication
 returns-2 c =
-    let own-link = c .before in let with-peer = own-link .before in let class = with-peer .before in
-    let check-invoke = class .before .before .before in let named = check-invoke .before in let code = named .before in
-    let start = code .before .before .before in
-    invoke-indicated (start .args .table .now) (start .args .state) (start .args .x .now) (start .args .id) (start .args .linked) (start .args .field)
-    (start .args .value) (check-invoke .check-invoke .result) (check-invoke .check-invoke .ensures) _ (passed (class .before))
-    (code .field-code .result) (code .field-code .ensures) (own-link .own-link .result) (own-link .own-link .ensures)
-    (with-peer .with-peer .result) (with-peer .with-peer .ensures (start .args .table .now) (class .class .ensures ∙ ap classOf (named .operation-named .ensures))) (c .indicated .ensures)
+    let next = c .before in let class = next .before in let checked = class .before .before .before in let named = checked .before in
+    let code = named .before in let start = code .before .before .before in
+    has-none (start .args .table .now) (start .args .state) (start .args .x .now) (invoke (start .args .id .0) (readOwnLink (start .args .linked)) (start .args .field) (readValue (start .args .x .now) (start .args .value))) (start .args .id .0) 0x81 (invokeChecks (start .args .table .now) (start .args .state) (start .args .id .0) (readOwnLink (start .args .linked)) (start .args .field) (readValue (start .args .x .now) (start .args .value))) _
+    (on-invoke (start .args .table .now) (start .args .state) (start .args .x .now) (start .args .id .0) (readOwnLink (start .args .linked)) (start .args .field) (readValue (start .args .x .now) (start .args .value))) _ (checked .check-invoke .ensures) _ (passed (class .before)) _ (Invoke (start .args .id) (start .args .linked) (code .field-code .result) (start .args .value)) (rw (next .with-peer .ensures (start .args .table .now) (class .class .ensures ∙ ap classOf (named .operation-named .ensures (start .pre))), code .field-code .ensures) refl) (c .indicated .ensures)
 
 pub arrive-invoke-spec : {M : Type 1} → statement M
 arrive-invoke-spec =
     tie.close
-    (tie.spec
-    field-code-requires
-    operation-named-requires
-    check-invoke-requires
-    enum-known-why
-    refused-requires
-    enum-told
-    class-requires
-    with-peer-requires
-    own-link-requires
-    indicated-requires
-    returns
-    returns-2)
+    (tie.spec (λ c κs. search needs) (λ c κs. search needs) check-invoke-requires (λ c. search needs) (λ c κs. search needs)
+    (λ c. search needs) (λ c κs. search needs) (λ c κs. search needs) (λ c κs. search needs) returns returns-2)

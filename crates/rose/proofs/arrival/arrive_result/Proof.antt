@@ -1,49 +1,32 @@
 -- A problem, or an indication.
-use Rattle.rose.proofs.ByKind.{result-refused, result-indicated}
-use mathlib.Core.Path.{ap, _∙_}
-use Rattle.protocol.specs.Check.{codeFound}
+use mathlib.Core.Path.{_≡_, refl, ap, _∙_}
+use Rattle.rose.proofs.Arrivals.{has-problem, has-none, on-result}
+use Rattle.apdu.specs.Parse.{result}
+use Rattle.apdu.specs.Reading.{readBody}
+use Rattle.protocol.specs.declared.Indication.the-variants.{Result}
+use Rattle.protocol.specs.Receive.{resultChecks}
+use Rattle.protocol.specs.Reading.{readIndication}
 use borrow.Author.Needs.{needs}
 use Rattle.rose.proofs.arrival.arrive_result.Statement.{statement}
 use Rattle.rose.proofs.arrival.arrive_result.Tie as tie
 
-own-found-requires : tie.Need-own-found-requires
-own-found-requires c κs = search needs
-
-check-result-requires : tie.Need-check-result-requires
-check-result-requires c κs = search needs
-
-enum-known-why : tie.Need-enum-known-why
-enum-known-why c = search needs
-
-refused-requires : tie.Need-refused-requires
-refused-requires c κs = search needs
-
-enum-told : tie.Need-enum-told
-enum-told c = search needs
-
-code-found-requires : tie.Need-code-found-requires
-code-found-requires c κs = search needs
-
-retire-own-requires : tie.Need-retire-own-requires
-retire-own-requires c κs = search needs
-
-indicated-requires : tie.Need-indicated-requires
-indicated-requires c κs = search needs
-
 returns : tie.Need-returns
 returns c =
-    let why = c .before .before in let check-result = why .before .before in let own-found = check-result .before in
-    let start = own-found .before .before .before in
-    result-refused (start .args .table .now) (start .args .state) (start .args .x .now) (start .args .id) (start .args .body)
-    (check-result .check-result .result) (check-result .check-result .ensures (start .args .state) (own-found .own-found .ensures)) _ (why .why .given .0 .0) (cc) (c .refused .ensures)
+    let number = c .before .before in let checked = number .before .before in let found = checked .before in
+    let start = found .before .before .before in
+    has-problem (start .args .table .now) (start .args .state) (start .args .x .now) (result (start .args .id .0) (readBody (start .args .x .now) (start .args .body))) (start .args .id .0) 0x82 (resultChecks (start .args .table .now) (start .args .state) (start .args .id .0) (readBody (start .args .x .now) (start .args .body))) _
+    (on-result (start .args .table .now) (start .args .state) (start .args .x .now) (start .args .id .0) (readBody (start .args .x .now) (start .args .body))) _ (checked .check-result .ensures (start .args .state) (found .own-found .ensures)) _ (number .number .given .0 .0) (cc) (c .rejected .ensures)
 
 returns-2 : tie.Need-returns-2
+unfolding readIndication
 returns-2 c =
-    let retire-own = c .before in let code-found = retire-own .before in let check-result = code-found .before .before .before in
-    let own-found = check-result .before in let start = own-found .before .before .before in
-    result-indicated (start .args .table .now) (start .args .state) (start .args .x .now) (start .args .id) (start .args .body)
-    (check-result .check-result .result) (check-result .check-result .ensures (start .args .state) (own-found .own-found .ensures)) _ (cc) (code-found .code-found .result) (code-found .code-found .ensures ∙ ap codeFound (own-found .own-found .ensures))
-    (retire-own .retire-own .result) (retire-own .retire-own .ensures) (c .indicated .ensures)
+    let code = c .before in let checked = code .before .before .before in let found = checked .before in let start = found .before .before .before in
+    has-none (start .args .table .now) (start .args .state) (start .args .x .now) (result (start .args .id .0) (readBody (start .args .x .now) (start .args .body))) (start .args .id .0) 0x82 (resultChecks (start .args .table .now) (start .args .state) (start .args .id .0) (readBody (start .args .x .now) (start .args .body))) _
+    (on-result (start .args .table .now) (start .args .state) (start .args .x .now) (start .args .id .0) (readBody (start .args .x .now) (start .args .body))) _ (checked .check-result .ensures (start .args .state) (found .own-found .ensures)) _ (cc) _ (Result (start .args .id) (start .args .body) (code .code-found .result)) (rw (code .code-found .ensures, found .own-found .ensures) refl) (c .concluded .ensures)
 
 pub arrive-result-spec : {M : Type 1} → statement M
-arrive-result-spec = tie.close (tie.spec own-found-requires check-result-requires enum-known-why refused-requires enum-told code-found-requires retire-own-requires indicated-requires returns returns-2)
+arrive-result-spec =
+    tie.close
+    (tie.spec
+    (λ c κs. search needs) (λ c κs. search needs) (λ c. search needs) (λ c κs. search needs) (λ c. search needs) (λ c κs. search needs)
+    (λ c κs. search needs) returns returns-2)

@@ -6,20 +6,11 @@ use borrow.Author.Needs.{needs}
 use Rattle.rose.proofs.arrival.arrive_wrong.Statement.{statement}
 use Rattle.rose.proofs.arrival.arrive_wrong.Tie as tie
 
-starts-reject-requires : tie.Need-starts-reject-requires
-starts-reject-requires c κs = search needs
-
-refused-requires : tie.Need-refused-requires
-refused-requires c κs = search needs
-
 returns : tie.Need-returns
 returns c =
     let if1 = c .before in let starts-reject = if1 .before in let start = starts-reject .before .before in
     is-wrong (start .args .x .now) (start .args .state) _ _ _ (c .refused .ensures)
     (fault-reject (start .args .x .now) (start .args .number) (start .args .id) (sym (starts-reject .starts-reject .ensures) ∙ if1 .if1 .taken))
-
-refused-requires-2 : tie.Need-refused-requires-2
-refused-requires-2 c κs = search needs
 
 returns-2 : tie.Need-returns-2
 returns-2 c =
@@ -28,6 +19,4 @@ returns-2 c =
     (fault-other (start .args .x .now) (start .args .number) (start .args .id) (sym (starts-reject .starts-reject .ensures) ∙ if1 .if1 .left))
 
 pub arrive-wrong-spec : {M : Type 1} → statement M
-arrive-wrong-spec =
-    tie.close
-    (tie.spec starts-reject-requires refused-requires returns refused-requires-2 returns-2)
+arrive-wrong-spec = tie.close (tie.spec (λ c κs. search needs) (λ c κs. search needs) returns (λ c κs. search needs) returns-2)

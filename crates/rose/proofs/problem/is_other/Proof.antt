@@ -9,21 +9,6 @@ use borrow.Author.Needs.{needs}
 use Rattle.rose.proofs.problem.is_other.Statement.{statement}
 use Rattle.rose.proofs.problem.is_other.Tie as tie
 
-enum-told : tie.Need-enum-told
-enum-told c = search needs
-
-enum-known-body : tie.Need-enum-known-body
-enum-known-body c = search needs
-
-is-local-requires : tie.Need-is-local-requires
-is-local-requires c κs = search needs
-
-field-code-requires : tie.Need-field-code-requires
-field-code-requires c κs = search needs
-
-same-requires : tie.Need-same-requires
-same-requires c κs = search needs
-
 returns : tie.Need-returns
 returns c =
     let field-code = c .before in let if1 = field-code .before in let is-local = if1 .before in let body = is-local .before .before in
@@ -45,12 +30,5 @@ returns-3 c =
 pub is-other-spec : {M : Type 1} → statement M
 is-other-spec =
     tie.close
-    (tie.spec
-    enum-told
-    enum-known-body
-    is-local-requires
-    field-code-requires
-    same-requires
-    returns
-    returns-2
+    (tie.spec (λ c. search needs) (λ c. search needs) (λ c κs. search needs) (λ c κs. search needs) (λ c κs. search needs) returns returns-2
     returns-3)

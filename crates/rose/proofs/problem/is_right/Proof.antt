@@ -4,35 +4,11 @@ use borrow.Author.Needs.{needs}
 use Rattle.rose.proofs.problem.is_right.Statement.{statement}
 use Rattle.rose.proofs.problem.is_right.Tie as tie
 
-enum-told : tie.Need-enum-told
-enum-told c = search needs
-
-sub-value-right : tie.Need-sub-value-right
-sub-value-right c = search needs
-
-part-value-right-start : tie.Need-part-value-right-start
-part-value-right-start c = search needs
-
-part-value-right-end : tie.Need-part-value-right-end
-part-value-right-end c = search needs
-
-value-right-requires : tie.Need-value-right-requires
-value-right-requires c κs = search needs
-
-enum-known-value : tie.Need-enum-known-value
-enum-known-value c = search needs
-
-octets-of-requires : tie.Need-octets-of-requires
-octets-of-requires c κs = search needs
-
 returns : tie.Need-returns
 returns c =
     let octets-of = c .before in let value = octets-of .before .before in let start = value .before .before .before in
     right-empty (start .args .x .now) (start .args .rule) (start .args .value) (value .value .given .0 .0) (cc) _ (octets-of .octets-of .ensures)
     (c .if1 .taken)
-
-value-right-requires-2 : tie.Need-value-right-requires-2
-value-right-requires-2 c κs = search needs
 
 returns-2 : tie.Need-returns-2
 returns-2 c =
@@ -48,15 +24,5 @@ returns-3 c =
 pub is-right-spec : {M : Type 1} → statement M
 is-right-spec =
     tie.close
-    (tie.spec
-    enum-told
-    sub-value-right
-    part-value-right-start
-    part-value-right-end
-    value-right-requires
-    enum-known-value
-    octets-of-requires
-    returns
-    value-right-requires-2
-    returns-2
-    returns-3)
+    (tie.spec (λ c. search needs) (λ c. search needs) (λ c. search needs) (λ c. search needs) (λ c κs. search needs) (λ c. search needs)
+    (λ c κs. search needs) returns (λ c κs. search needs) returns-2 returns-3)

@@ -8,11 +8,8 @@ use Rattle.rose.proofs.usable.lacks_room.Tie as tie
 returns : tie.Need-returns
 returns c = rw (eq-eqb _ _ (c .if1 .taken)) refl
 
-live-requires : tie.Need-live-requires
-live-requires c κs = search needs
-
 returns-2 : tie.Need-returns-2
-returns-2 c = rw (ne-eqb _ _ (c .before .if1 .left), c .live .ensures .0) refl
+returns-2 c = rw (ne-eqb _ _ (c .before .if1 .left), c .live .ensures) refl
 
 pub lacks-room-spec : {M : Type 1} → statement M
-lacks-room-spec = tie.close (tie.spec returns live-requires returns-2)
+lacks-room-spec = tie.close (tie.spec returns (λ c κs. search needs) returns-2)

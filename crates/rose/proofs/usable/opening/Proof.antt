@@ -1,55 +1,41 @@
 -- 19, 1 by the table, 1 by a side, or neither.
-use Rattle.rose.proofs.UsableAnswers.{unsound, invalid, own-lacking, peer-lacking, all-clear}
+use mathlib.Core.Path.{refl}
+use mathlib.Core.Bool.{not}
+use mathlib.Core.List.{[], _∷_}
 use Rattle.base.proofs.Tests.{said-no, said-yes}
+use Rattle.protocol.specs.Call.{plain}
+use Rattle.protocol.specs.Check.{_⇐_, usable}
+use Rattle.rose.specs.Steps.{readVerdict}
+use Rattle.rose.proofs.UsableAnswers.{not-usable, usable-is}
+use Rattle.rose.proofs.Verdicts.{all, made, last}
 use borrow.Author.Needs.{needs}
 use Rattle.rose.proofs.usable.opening.Statement.{statement}
 use Rattle.rose.proofs.usable.opening.Tie as tie
 
-sound-requires : tie.Need-sound-requires
-sound-requires c κs = search needs
-
 returns : tie.Need-returns
-returns c =
-    let sound = c .before in let start = sound .before .before in
-    unsound (start .args .table .now) (start .args .state) (said-no (sound .sound .ensures .says) (c .if1 .taken))
-
-valid-requires : tie.Need-valid-requires
-valid-requires c κs = search needs
+unfolding readVerdict
+returns c = rw (said-no (c .before .sound .ensures) (c .if1 .taken)) refl
 
 returns-2 : tie.Need-returns-2
+unfolding readVerdict
 returns-2 c =
     let valid = c .before in let if1 = valid .before in let sound = if1 .before in let start = sound .before .before in
-    invalid (start .args .table .now) (start .args .state) (said-yes (sound .sound .ensures .says) (if1 .if1 .left))
-    (said-no (valid .valid .ensures) (c .if2 .taken))
-
-covers-requires : tie.Need-covers-requires
-covers-requires c κs = (said-yes (c .before .before .valid .ensures) (c .before .if2 .left))
+    rw (said-yes (sound .sound .ensures) (if1 .if1 .left), not-usable (start .args .table .now) (start .args .state) (said-no (valid .valid .ensures) (c .if2 .taken))) refl
 
 returns-3 : tie.Need-returns-3
 returns-3 c =
-    let covers = c .before in let if2 = covers .before .before in let valid = if2 .before in let if1 = valid .before in let sound = if1 .before in
-    let start = sound .before .before in
-    own-lacking (start .args .table .now) (start .args .state) (said-yes (sound .sound .ensures .says) (if1 .if1 .left))
-    (said-yes (valid .valid .ensures) (if2 .if2 .left)) (said-no (covers .covers .ensures) (c .if3 .taken))
-
-covers-requires-2 : tie.Need-covers-requires-2
-covers-requires-2 c κs = (said-yes (c .before .before .before .before .before .valid .ensures) (c .before .before .before .before .if2 .left))
-
-returns-4 : tie.Need-returns-4
-returns-4 c =
-    let covers2 = c .before in let if3 = covers2 .before .before in let covers = if3 .before in let if2 = covers .before .before in
-    let valid = if2 .before in let if1 = valid .before in let sound = if1 .before in let start = sound .before .before in
-    peer-lacking (start .args .table .now) (start .args .state) (said-yes (sound .sound .ensures .says) (if1 .if1 .left))
-    (said-yes (valid .valid .ensures) (if2 .if2 .left)) (said-yes (covers .covers .ensures) (if3 .if3 .left))
-    (said-no (covers2 .covers2 .ensures) (c .if4 .taken))
-
-returns-5 : tie.Need-returns-5
-returns-5 c =
-    let covers2 = c .before in let if3 = covers2 .before .before in let covers = if3 .before in let if2 = covers .before .before in
-    let valid = if2 .before in let if1 = valid .before in let sound = if1 .before in let start = sound .before .before in
-    all-clear (start .args .table .now) (start .args .state) (said-yes (sound .sound .ensures .says) (if1 .if1 .left))
-    (said-yes (valid .valid .ensures) (if2 .if2 .left)) (said-yes (covers .covers .ensures) (if3 .if3 .left))
-    (said-yes (covers2 .covers2 .ensures) (c .if4 .left))
+    let peer = c .before in let own = peer .before in let if2 = own .before .before .before in let valid = if2 .before in
+    let if1 = valid .before in let sound = if1 .before in let start = sound .before .before in
+    let T = start .args .table .now in let s = start .args .state in
+    rw (said-yes (sound .sound .ensures) (if1 .if1 .left))
+    (all {P = Unit {0}} plain ((1 ⇐ not (usable T s)) ∷ []) _ tt
+    (made (c .then .ensures) (λ _. rw (own .covers .ensures, peer .covers2 .ensures, usable-is T s (said-yes (valid .valid .ensures) (if2 .if2 .left))) refl)
+    last))
 
 pub opening-spec : {M : Type 1} → statement M
-opening-spec = tie.close (tie.spec sound-requires returns valid-requires returns-2 covers-requires returns-3 covers-requires-2 returns-4 returns-5)
+opening-spec =
+    tie.close
+    (tie.spec (λ c κs. search needs) returns (λ c κs. search needs) returns-2
+    (λ c κs. said-yes (c .before .before .before .valid .ensures) (c .before .before .if2 .left))
+    (λ c κs. said-yes (c .before .before .before .before .valid .ensures) (c .before .before .before .if2 .left)) (λ c κs. search needs)
+    returns-3)

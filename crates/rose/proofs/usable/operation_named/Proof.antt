@@ -4,11 +4,8 @@ use borrow.Author.Needs.{needs}
 use Rattle.rose.proofs.usable.operation_named.Statement.{statement}
 use Rattle.rose.proofs.usable.operation_named.Tie as tie
 
-operation-of-requires : tie.Need-operation-of-requires
-operation-of-requires c κs = search needs
-
 returns : tie.Need-returns
-returns c = operation-answer _ (c .before .before .pre) _ _ (c .operation-of .ensures)
+returns c = λ h. operation-answer _ h _ _ (c .operation-of .ensures)
 
 pub operation-named-spec : {M : Type 1} → statement M
-operation-named-spec = tie.close (tie.spec operation-of-requires returns)
+operation-named-spec = tie.close (tie.spec (λ c κs. search needs) returns)

@@ -1,0 +1,126 @@
+-- What only serves the proof of a call's parts: the first check that fails, a linked id's parent, what becomes of a received APDU. The calls
+-- promise what crate protocol defines.
+use Prim.Native.Nat.{ℕ, _≤_}
+use mathlib.Core.Path.{_≡_}
+use mathlib.Core.Bool.{Bool, true, false, cond, not, _&&_, _||_}
+use mathlib.Core.List.{List, [], _∷_, _++_}
+use mathlib.Core.Option.{Option, some, none}
+use Rattle.records.specs.declared.State.{State}
+use Rattle.records.specs.declared.Found.{Found}
+use Rattle.records.specs.declared.Found.the-variants.{Operation, Nothing}
+use Rattle.records.specs.declared.Code.{Code}
+use Rattle.records.specs.declared.Record.{Record}
+use Rattle.records.specs.Records.{lookup}
+use Rattle.optable.specs.Lookup.{hasChild, childOf}
+use Rattle.apdu.specs.declared.Number.{Number}
+use Rattle.apdu.specs.declared.Number.the-variants.{Of, Absent}
+use Rattle.apdu.specs.declared.CodeField.{CodeField}
+use Rattle.apdu.specs.declared.CodeField.the-variants.{Local, Other}
+use Rattle.apdu.specs.Parse.{Apdu}
+use lib.ListN.{length, drop}
+use lib.Dec.{eqb, leb}
+use Rattle.records.specs.State.{retireOwn, retirePeer}
+use Rattle.protocol.specs.declared.Invocation.{Invocation}
+use Rattle.protocol.specs.declared.Invocation.the-variants.{Own, Peer}
+use Rattle.protocol.specs.declared.Reception.{Reception}
+use Rattle.protocol.specs.declared.Reception.the-variants.{Indicated, Refused as Refusing}
+use Rattle.protocol.specs.declared.Outcome.the-variants.{Accepted}
+use Rattle.protocol.specs.declared.Requested.{Requested}
+use Rattle.protocol.specs.declared.Received.{Received}
+use Rattle.protocol.specs.Call.{Call, Refusal, plain, refused, rejectWritten, stateAfter}
+use Rattle.protocol.specs.Check.{Check, codeFound, shared}
+use Rattle.protocol.specs.Perform.{checks}
+use Rattle.protocol.specs.Receive.{receiveApdu}
+use Rattle.protocol.specs.Reading.{readRefusal, readReception, readOutcome}
+use Rattle.rose.specs.declared.verdict.Verdict.{Verdict}
+use Rattle.rose.specs.declared.verdict.Verdict.the-variants.{Passes, Fails}
+use Rattle.rose.specs.declared.usable.Parent.{Parent}
+use Rattle.rose.specs.declared.usable.Parent.the-variants.{Unlinked, Linked}
+use Rattle.rose.specs.declared.arrival.Arrival.{Arrival}
+
+-- the refusal of the first check that fails
+abbrev pub first : List Check → Option Refusal
+first [] = none
+first (c ∷ cs) = cond (c .fails) (some (c .why)) (first cs)
+
+-- the refusal that a verdict's number stands for
+unfoldable pub readVerdict : (ℕ → Refusal) → Verdict → Option Refusal
+readVerdict F Passes = none
+readVerdict F (Fails n) = some (F n)
+
+-- a verdict, or, where it passes, that of one check more
+unfoldable pub oneMore : Verdict → Bool → ℕ → Verdict
+oneMore Passes fails n = cond fails (Fails n) Passes
+oneMore (Fails m) fails n = Fails m
+
+-- a verdict on 19 and 1
+abbrev pub Opened : List ℕ → State → Verdict → Type 0
+Opened T s v = readVerdict plain v ≡ first (shared T s)
+
+-- a verdict on all checks of a call
+abbrev pub Judged : List ℕ → State → Call → Verdict → Type 0
+Judged T s c v = readVerdict plain v ≡ first (checks T s c)
+
+-- what a received APDU p in the octets x is answered: the indication or refusal, and the state then
+pub record Arrives (T : List ℕ) (s : State) (x : List ℕ) (p : Apdu) (r : Arrival) : Type 0 where
+  pub answers : readReception x (r .reception) (r .state) [] ≡ receiveApdu T s x p
+  pub state : r .state ≡ stateAfter s (receiveApdu T s x p)
+
+abbrev pub isFound : Found → Bool
+isFound (Operation c) = true
+isFound Nothing = false
+
+abbrev pub isLocal : CodeField → Bool
+isLocal (Local c) = true
+isLocal Other = false
+
+-- ---- a linked id's parent
+
+abbrev pub parentIn : Number → List Record → Parent
+parentIn Absent l = Unlinked
+parentIn (Of i) l = Linked (lookup i l)
+
+abbrev pub missing : Parent → Bool
+missing Unlinked = false
+missing (Linked f) = not (isFound f)
+
+abbrev pub childless : List ℕ → Parent → Bool
+childless T Unlinked = false
+childless T (Linked f) = not (hasChild T (codeFound f))
+
+abbrev pub noChild : List ℕ → Parent → Code → Bool
+noChild T Unlinked c = false
+noChild T (Linked f) c = not (childOf T (codeFound f) c)
+
+-- ---- answers
+
+-- the numbers of the refusals that checks give
+abbrev pub isNumber : ℕ → Bool
+isNumber n = (leb 1 n && leb n 16) || eqb n 19
+
+pub record RefusedRequest (s : State) (n : ℕ) (r : Requested) : Type 0 where
+  pub outcome : isNumber n ≡ true → (t : State) (w : List ℕ) → readOutcome (r .outcome) t w ≡ refused (plain n)
+  pub state : r .state ≡ s
+  pub written : r .written ≡ 0
+
+pub record RefusedReceive (s : State) (n : ℕ) (r : Received) : Type 0 where
+  pub reception : isNumber n ≡ true → (x : List ℕ) (t : State) (w : List ℕ) → readReception x (r .reception) t w ≡ refused (plain n)
+  pub state : r .state ≡ s
+  pub written : r .written ≡ 0
+
+abbrev pub acceptedRequest : State → ℕ → Requested
+acceptedRequest s n = record { state = s; outcome = Accepted; written = n }
+
+abbrev pub withoutInvocation : State → Invocation → State
+withoutInvocation s (Own i) = retireOwn s i
+withoutInvocation s (Peer i) = retirePeer s i
+
+-- the octets that a reception writes: the Reject of an 18
+abbrev pub receptionWrites : Reception → List ℕ
+receptionWrites (Indicated i) = []
+receptionWrites (Refusing why) = rejectWritten (readRefusal why)
+
+-- they stand at the front of the output, if they fit
+pub record RefusalWritten (reception : Reception) (before after : List ℕ) (count : ℕ) : Type 0 where
+  pub octets : length (receptionWrites reception) ≤ length before → after ≡ receptionWrites reception ++ drop (length (receptionWrites reception)) before
+  pub counted : length (receptionWrites reception) ≤ length before → count ≡ length (receptionWrites reception)
