@@ -92,14 +92,18 @@ fn indication_words(x: &[u8], said: Indication) {
     }
 }
 
+// A refusal's number, and the fields of the Reject behind an 18.
+pub(crate) fn refusal_words(why: Refusal) {
+    number(b"refused with ", why.number() as u32);
+    if let Refusal::Rejected { id, .. } = why {
+        let problem = why.problem();
+        reject_words(b": ", id, problem.kind, problem.number);
+    }
+}
+
 pub(crate) fn reception_words(x: &[u8], reception: Reception) {
     match reception {
         Reception::Indicated(said) => indication_words(x, said),
-        Reception::Refused(why) => match why {
-            Refusal::Rejected { id, kind, problem } => {
-                reject_words(b"refused with 18: ", id, kind, problem)
-            }
-            _ => say(b"refused"),
-        },
+        Reception::Refused(why) => refusal_words(why),
     }
 }

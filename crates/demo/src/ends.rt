@@ -1,16 +1,17 @@
 // A kiosk and a controller, each with its own table and state, and the channel between them.
 use crate::answer::reception_words;
+use crate::answer::refusal_words;
 use crate::day::Day;
 use crate::day::FRESH;
 use crate::day::recorded;
 use crate::text::number;
 use crate::text::octets;
 use crate::text::say;
+use apdu::PeerLink;
 use apdu::Span;
 use apdu::parse::octets_of;
 use protocol::Invocation;
 use protocol::Outcome;
-use protocol::PeerLink;
 use protocol::Requested;
 use records::Code;
 use records::OwnId;
@@ -75,6 +76,21 @@ fn sent(words: &[u8], before: Apdu, out: [u8; 32], written: usize) -> Apdu {
     Apdu { octets: out, span }
 }
 
+// The same after a request, which sends nothing where it is refused.
+fn requested(words: &[u8], before: Apdu, out: [u8; 32], r: Requested) -> Apdu {
+    let outcome = r.outcome;
+    match outcome {
+        Outcome::Accepted => sent(words, before, out, r.written),
+        Outcome::Refused(why) => {
+            say(words);
+            say(b" nothing: ");
+            refusal_words(why);
+            say(b"\n");
+            before
+        }
+    }
+}
+
 // The kiosk invokes operation 7 with probe 3, and the controller receives it.
 pub(crate) fn ask(mut site: Site, id: u32) -> Site {
     let mut out = [0u8; 32];
@@ -91,7 +107,7 @@ pub(crate) fn ask(mut site: Site, id: u32) -> Site {
         &mut out,
     );
     let next = r.state;
-    let apdu = sent(b"   kiosk sends      ", before, out, r.written);
+    let apdu = requested(b"   kiosk sends      ", before, out, r);
     site.kiosk = next;
     site.to_controller = apdu;
     controller_reads(site)
@@ -101,7 +117,7 @@ pub(crate) fn ask(mut site: Site, id: u32) -> Site {
 fn answered(mut site: Site, r: Requested, out: [u8; 32]) -> Site {
     let next = r.state;
     let before = site.to_kiosk;
-    let apdu = sent(b"   controller sends ", before, out, r.written);
+    let apdu = requested(b"   controller sends ", before, out, r);
     site.controller = next;
     site.to_kiosk = apdu;
     site
@@ -129,7 +145,11 @@ pub(crate) fn forget(mut site: Site, id: u32) -> Site {
     let outcome = r.outcome;
     match outcome {
         Outcome::Accepted => number(b"   kiosk forgets     invocation ", id),
-        Outcome::Refused(_) => number(b"   kiosk keeps       invocation ", id),
+        Outcome::Refused(why) => {
+            number(b"   kiosk keeps       invocation ", id);
+            say(b", ");
+            refusal_words(why);
+        }
     }
     say(b"\n");
     site.kiosk = next;

@@ -1,51 +1,20 @@
-// The line of one call: what was answered, the state then, and the lent output.
+// What a call answered: the front of its line.
 use crate::text::decimal;
 use crate::text::hex_all;
 use crate::text::hex2;
 use crate::text::hex8;
 use crate::text::put;
-use crate::text::side_line;
-use crate::text::spoiled;
 use crate::text::words;
 use apdu::Body;
 use apdu::CodeField;
 use apdu::Number;
+use apdu::OwnLink;
 use apdu::Value;
 use apdu::parse::octets_of;
 use protocol::Indication;
 use protocol::Outcome;
-use protocol::OwnLink;
 use protocol::Reception;
 use protocol::Refusal;
-use records::State;
-
-fn refusal_number(why: Refusal) -> u8 {
-    match why {
-        Refusal::InvalidTable => 1,
-        Refusal::ShortOutput => 2,
-        Refusal::LongInput => 3,
-        Refusal::UnknownOperation => 4,
-        Refusal::IdInUse => 5,
-        Refusal::SynchronousLive => 6,
-        Refusal::UnknownLinkedId => 7,
-        Refusal::NotAChild => 8,
-        Refusal::MalformedValue => 9,
-        Refusal::MistypedValue => 10,
-        Refusal::NoRecord => 11,
-        Refusal::WrongClass => 12,
-        Refusal::UnlistedError => 13,
-        Refusal::RecordsFull => 14,
-        Refusal::LargeApdu => 15,
-        Refusal::WrongProblem => 16,
-        Refusal::UnacceptableReject => 17,
-        Refusal::Rejected {
-            id: _,
-            kind: _,
-            problem: _,
-        } => 18,
-        Refusal::UnsoundState => 19,
-    }
-}
 
 // The problem's kind and number behind an 18.
 fn problem_line(line: &mut [u8], at: usize, kind: u8, problem: u8) -> usize {
@@ -57,15 +26,13 @@ fn problem_line(line: &mut [u8], at: usize, kind: u8, problem: u8) -> usize {
 
 fn refusal_line(line: &mut [u8], why: Refusal) -> usize {
     let a = words(line, 0, b"refused ");
-    let b = decimal(line, a, refusal_number(why));
-    match why {
-        Refusal::Rejected {
-            id: _,
-            kind,
-            problem,
-        } => problem_line(line, b, kind, problem),
-        _ => b,
+    let number = why.number();
+    let b = decimal(line, a, number as u64);
+    if number == 18 {
+        let problem = why.problem();
+        return problem_line(line, b, problem.kind, problem.number);
     }
+    b
 }
 
 fn number_line(line: &mut [u8], at: usize, n: Number) -> usize {
@@ -196,45 +163,5 @@ pub(crate) fn outcome_line(line: &mut [u8], is_forget: bool, outcome: Outcome) -
     match outcome {
         Outcome::Accepted => accepted_line(line, is_forget),
         Outcome::Refused(why) => refusal_line(line, why),
-    }
-}
-
-fn state_line(line: &mut [u8], at: usize, state: State) -> usize {
-    let own = state.own;
-    let peer = state.peer;
-    let a = words(line, at, b" own ");
-    let b = side_line(line, a, own);
-    let c = words(line, b, b" peer ");
-    side_line(line, c, peer)
-}
-
-// Says if an octet behind what was written is no longer A5, and ends the line.
-fn behind_line(line: &mut [u8], at: usize, behind: &[u8]) -> usize {
-    if spoiled(behind) {
-        let k = words(line, at, b" spoiled");
-        return put(line, k, 10);
-    }
-    put(line, at, 10)
-}
-
-fn output_line(line: &mut [u8], at: usize, lent: &[u8], written: usize) -> usize {
-    let a = words(line, at, b" out ");
-    if written == 0 {
-        let b = put(line, a, 45);
-        return behind_line(line, b, lent);
-    }
-    if written <= lent.len() {
-        let b = hex_all(line, a, &lent[0..written]);
-        return behind_line(line, b, &lent[written..]);
-    }
-    a
-}
-
-// Ends the line of a call whose answer stands before `at`, and writes it to standard output.
-pub(crate) fn emit(line: &mut [u8], at: usize, state: State, lent: &[u8], written: usize) {
-    let a = state_line(line, at, state);
-    let n = output_line(line, a, lent, written);
-    if n <= line.len() {
-        io::write_all(1, &line[0..n]);
     }
 }

@@ -1,16 +1,24 @@
 // The six calls of frames: each is made, once or so many times from the state as it was, and its line written.
-use crate::answer::emit;
 use crate::answer::outcome_line;
 use crate::answer::reception_line;
+use crate::ending::emit;
+use crate::ending::value_of;
 use crate::text::fill;
+use apdu::PeerLink;
+use apdu::Value;
 use protocol::Invocation;
-use protocol::PeerLink;
 use protocol::Received;
 use protocol::Requested;
 use records::Code;
 use records::OwnId;
 use records::PeerId;
 use records::State;
+
+// What the arguments ask for: how often each call is made, and if a line ends with the value's place.
+pub(crate) struct Asked {
+    pub(crate) times: u64,
+    pub(crate) places: bool,
+}
 
 // The numbers before a frame's payload, as docs/DRIVE.md has them.
 pub(crate) struct Frame {
@@ -59,18 +67,19 @@ fn received(times: u64, state: State, table: &[u8], x: &[u8], out: &mut [u8]) ->
 }
 
 fn receive(
-    times: u64,
+    asked: Asked,
     state: State,
     table: &[u8],
     x: &[u8],
     out: &mut [u8],
     line: &mut [u8],
 ) -> State {
-    let r = received(times, state, table, x, out);
+    let r = received(asked.times, state, table, x, out);
     let reception = r.reception;
     let next = r.state;
     let at = reception_line(line, x, reception);
-    emit(line, at, next, out, r.written);
+    let value = value_of(reception);
+    emit(line, at, next, out, r.written, asked.places, value);
     next
 }
 
@@ -113,7 +122,7 @@ fn requested(
 
 // A call, made so many times, and its line.
 pub(crate) fn call(
-    times: u64,
+    asked: Asked,
     f: Frame,
     state: State,
     table: &[u8],
@@ -123,12 +132,12 @@ pub(crate) fn call(
 ) -> State {
     fill(out);
     if f.kind == 2 {
-        return receive(times, state, table, payload, out, line);
+        return receive(asked, state, table, payload, out, line);
     }
-    let r = requested(times, f, state, table, payload, out);
+    let r = requested(asked.times, f, state, table, payload, out);
     let outcome = r.outcome;
     let next = r.state;
     let at = outcome_line(line, f.kind == 7, outcome);
-    emit(line, at, next, out, r.written);
+    emit(line, at, next, out, r.written, asked.places, Value::Absent);
     next
 }

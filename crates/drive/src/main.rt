@@ -1,14 +1,18 @@
 // One end of an association, driven by a script of frames on standard input: a line on standard output for each call.
 // A number as argument says how often each call is made, from the state as it was, so that calls can be measured.
+// The word `places` as argument has each line end with the value's place in the received octets.
 mod answer;
 mod calls;
+mod ending;
 mod text;
 
+use calls::Asked;
 use calls::Frame;
 use calls::call;
 use records::State;
 use text::decimal_of;
 use text::pair;
+use text::same;
 use text::side_image;
 use text::word;
 use text::words;
@@ -16,7 +20,7 @@ use text::words;
 // What is kept from frame to frame.
 struct Session {
     more: bool,
-    times: u64,
+    asked: Asked,
     table_len: usize,
     state: State,
 }
@@ -52,32 +56,21 @@ fn filled(buf: &mut [u8], n: usize) -> bool {
     false
 }
 
-fn ended(s: Session) -> Session {
-    let state = s.state;
-    Session {
-        more: false,
-        times: 0,
-        table_len: 0,
-        state,
-    }
+fn ended(mut s: Session) -> Session {
+    s.more = false;
+    s
 }
 
 // A state image of 516 octets; another length is ignored.
-fn imaged(payload: &[u8], s: Session) -> Session {
+fn imaged(payload: &[u8], mut s: Session) -> Session {
     if payload.len() != 516 {
         return s;
     }
-    let times = s.times;
-    let table_len = s.table_len;
     let own = side_image(payload, 0);
     let peer = side_image(payload, 258);
     let state = State { own, peer };
-    Session {
-        more: true,
-        times,
-        table_len,
-        state,
-    }
+    s.state = state;
+    s
 }
 
 // A call, if the table and the room fit their buffers.
@@ -87,21 +80,17 @@ fn called(
     payload: &[u8],
     out: &mut [u8],
     line: &mut [u8],
-    s: Session,
+    mut s: Session,
 ) -> Session {
     let room = f.room;
-    let times = s.times;
+    let asked = s.asked;
     let table_len = s.table_len;
     if table_len <= table.len() {
         if room <= out.len() {
             let lent = &table[0..table_len];
-            let state = call(times, f, s.state, lent, payload, &mut out[0..room], line);
-            return Session {
-                more: true,
-                times,
-                table_len,
-                state,
-            };
+            let state = call(asked, f, s.state, lent, payload, &mut out[0..room], line);
+            s.state = state;
+            return s;
         }
     }
     ended(s)
@@ -114,19 +103,12 @@ fn act(
     payload: &[u8],
     out: &mut [u8],
     line: &mut [u8],
-    s: Session,
+    mut s: Session,
 ) -> Session {
     let kind = f.kind;
     if kind == 0 {
-        let state = s.state;
-        let times = s.times;
-        let table_len = words(table, 0, payload);
-        return Session {
-            more: true,
-            times,
-            table_len,
-            state,
-        };
+        s.table_len = words(table, 0, payload);
+        return s;
     }
     if kind == 1 {
         return imaged(payload, s);
@@ -161,10 +143,10 @@ fn turn(
 }
 
 // A proved loop has to end, so it counts its turns down, from a number that no run uses up.
-fn run(times: u64, table: &mut [u8], payload: &mut [u8], out: &mut [u8], line: &mut [u8]) {
+fn run(asked: Asked, table: &mut [u8], payload: &mut [u8], out: &mut [u8], line: &mut [u8]) {
     let mut s = Session {
         more: true,
-        times,
+        asked,
         table_len: 0,
         state: State::fresh(),
     };
@@ -175,11 +157,30 @@ fn run(times: u64, table: &mut [u8], payload: &mut [u8], out: &mut [u8], line: &
     }
 }
 
-// How often each call is made: what the argument says, or once.
-fn times_asked() -> u64 {
+fn with_argument(mut asked: Asked, i: usize) -> Asked {
     let mut text = io::buffer();
-    let n = os::arg(1, &mut text);
-    decimal_of(&text[..n])
+    let n = os::arg(i, &mut text);
+    if same(&text[..n], b"places") {
+        asked.places = true;
+        return asked;
+    }
+    asked.times = decimal_of(&text[..n]);
+    asked
+}
+
+// Without a number each call is made once.
+fn arguments() -> Asked {
+    let mut asked = Asked {
+        times: 1,
+        places: false,
+    };
+    let count = os::arg_count();
+    let mut i: usize = 1;
+    while i < count {
+        asked = with_argument(asked, i);
+        i += 1;
+    }
+    asked
 }
 
 fn main() {
@@ -187,5 +188,5 @@ fn main() {
     let mut payload = io::large_buffer();
     let mut out = io::large_buffer();
     let mut line = [0u8; 300000];
-    run(times_asked(), &mut table, &mut payload, &mut out, &mut line);
+    run(arguments(), &mut table, &mut payload, &mut out, &mut line);
 }

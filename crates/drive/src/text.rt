@@ -36,15 +36,6 @@ pub(crate) fn hex8(line: &mut [u8], at: usize, x: u32) -> usize {
     hex4(line, a, (x % 65536) as usize)
 }
 
-// A number below 100, without a leading zero.
-pub(crate) fn decimal(line: &mut [u8], at: usize, x: u8) -> usize {
-    if x < 10 {
-        return put(line, at, 48 + x);
-    }
-    let a = put(line, at, 48 + x / 10 % 10);
-    put(line, a, 48 + x % 10)
-}
-
 pub(crate) fn hex_all(line: &mut [u8], at: usize, s: &[u8]) -> usize {
     let mut k = at;
     for i in 0..s.len() {
@@ -59,6 +50,12 @@ pub(crate) fn words(line: &mut [u8], at: usize, s: &[u8]) -> usize {
         k = put(line, k, s[i]);
     }
     k
+}
+
+pub(crate) fn decimal(line: &mut [u8], at: usize, x: u64) -> usize {
+    let mut digits = [0u8; 20];
+    let n = io::decimal(x, &mut digits);
+    words(line, at, &digits[..n])
 }
 
 // Fills lent output with A5, so that a spoiled octet shows.
@@ -111,6 +108,18 @@ fn places(line: &mut [u8], at: usize, side: Records, n: usize) -> usize {
 pub(crate) fn side_line(line: &mut [u8], at: usize, side: Records) -> usize {
     let k = hex4(line, at, side.count);
     places(line, k, side, shown(side))
+}
+
+pub(crate) fn same(a: &[u8], b: &[u8]) -> bool {
+    if a.len() != b.len() {
+        return false;
+    }
+    for i in 0..a.len() {
+        if a[i] != b[i] {
+            return false;
+        }
+    }
+    true
 }
 
 // The number that decimal digits say; other octets and digits from 10^12 on are passed over.

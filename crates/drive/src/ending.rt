@@ -1,0 +1,105 @@
+// What stands behind the answer on a line: the state then, the lent output and, where asked, the value's place.
+use crate::text::decimal;
+use crate::text::hex_all;
+use crate::text::put;
+use crate::text::side_line;
+use crate::text::spoiled;
+use crate::text::words;
+use apdu::Body;
+use apdu::Span;
+use apdu::Value;
+use protocol::Indication;
+use protocol::Reception;
+use records::State;
+
+fn state_line(line: &mut [u8], at: usize, state: State) -> usize {
+    let own = state.own;
+    let peer = state.peer;
+    let a = words(line, at, b" own ");
+    let b = side_line(line, a, own);
+    let c = words(line, b, b" peer ");
+    side_line(line, c, peer)
+}
+
+// Says if an octet behind what was written is no longer A5.
+fn behind_line(line: &mut [u8], at: usize, behind: &[u8]) -> usize {
+    if spoiled(behind) {
+        return words(line, at, b" spoiled");
+    }
+    at
+}
+
+fn output_line(line: &mut [u8], at: usize, lent: &[u8], written: usize) -> usize {
+    let a = words(line, at, b" out ");
+    if written == 0 {
+        let b = put(line, a, 45);
+        return behind_line(line, b, lent);
+    }
+    if written <= lent.len() {
+        let b = hex_all(line, a, &lent[0..written]);
+        return behind_line(line, b, &lent[written..]);
+    }
+    a
+}
+
+fn body_value(body: Body) -> Value {
+    match body {
+        Body::Absent => Value::Absent,
+        Body::Of { value, .. } => Value::At(value),
+    }
+}
+
+fn indicated_value(said: Indication) -> Value {
+    match said {
+        Indication::Invoke { argument, .. } => argument,
+        Indication::Result { body, .. } => body_value(body),
+        Indication::Error { parameter, .. } => parameter,
+        _ => Value::Absent,
+    }
+}
+
+// The place of what was indicated: the argument, the result value or the error parameter.
+pub(crate) fn value_of(reception: Reception) -> Value {
+    match reception {
+        Reception::Indicated(said) => indicated_value(said),
+        Reception::Refused(_) => Value::Absent,
+    }
+}
+
+fn span_line(line: &mut [u8], at: usize, span: Span) -> usize {
+    let a = put(line, at, 32);
+    let b = decimal(line, a, span.at as u64);
+    let c = put(line, b, 32);
+    decimal(line, c, span.end as u64)
+}
+
+// The value's place in the received octets, where the run shows places.
+fn place_line(line: &mut [u8], at: usize, is_placed: bool, value: Value) -> usize {
+    if !is_placed {
+        return at;
+    }
+    let a = words(line, at, b" value");
+    match value {
+        Value::Absent => words(line, a, b" none"),
+        Value::At(span) => span_line(line, a, span),
+    }
+}
+
+// Ends the line of a call whose answer stands before `at`, and writes it to standard output.
+pub(crate) fn emit(
+    line: &mut [u8],
+    at: usize,
+    state: State,
+    lent: &[u8],
+    written: usize,
+    is_placed: bool,
+    value: Value,
+) {
+    let a = state_line(line, at, state);
+    let b = output_line(line, a, lent, written);
+    let c = place_line(line, b, is_placed, value);
+    let n = put(line, c, 10);
+    if n <= line.len() {
+        io::write_all(1, &line[0..n]);
+    }
+}
