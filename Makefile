@@ -16,7 +16,7 @@ demo:
 	$(kit)
 	log=$$(mktemp)
 	trap 'rm -f "$$log"' EXIT
-	echo "make demo: each crate is proved from nothing before demo is built, some six minutes on 2 cores; the next time it starts at once."
+	echo "make demo: each crate is proved from nothing before demo is built, some four minutes on 2 cores; the next time it starts at once."
 	rt check demo 2>&1 | tee "$$log" | { grep --line-buffered '^rt: .* proved' || true; } || { cat "$$log"; echo "make demo: failed"; exit 1; }
 	echo
 	target/bin/demo
@@ -43,7 +43,7 @@ bench:
 	$(kit)
 	need cargo "install Rust; no crate is fetched"
 	need valgrind "it counts the instructions"
-	echo "make bench: drive is proved before it is built, some six minutes on 2 cores the first time."
+	echo "make bench: drive is proved before it is built, some four minutes on 2 cores the first time."
 	rt check drive | grep '^rt: .* proved'
 	cargo build --release --offline --quiet --manifest-path tests/second/Cargo.toml
 	python3 tests/bench/bench.py
