@@ -46,6 +46,13 @@ tableL =
     ∷ 0x00 ∷ 0x00 ∷ 0x00 ∷ 0x00
     ∷ []
 
+-- operation 7 is of class 5, with an argument of type 02
+abbrev tableS : List ℕ
+tableS =
+    0x00 ∷ 0x01 ∷ 0x00 ∷ 0x10 ∷ 0x00 ∷ 0x00 ∷ 0x00 ∷ 0x18 ∷ 0x00 ∷ 0x00 ∷ 0x00 ∷ 0x18 ∷ 0x00 ∷ 0x00 ∷ 0x00 ∷ 0x18
+    ∷ 0x00 ∷ 0x00 ∷ 0x00 ∷ 0x07 ∷ 0x05 ∷ 0x02 ∷ 0x00 ∷ 0x00
+    ∷ []
+
 -- ---- calls
 
 abbrev seven : Code
@@ -132,6 +139,10 @@ linked =
     ∷ at kiosk (receive (encodeInvoke 9 (Of 1) seven (some three)) 11)
     ∷ []
 
+-- a class 5 invocation makes no record at either end, so that neither finds the id again
+abbrev silent : List Event
+silent = ask 1 ∷ hear 1 ∷ ask 1 ∷ hear 1 ∷ []
+
 -- an id asked twice: the repeat of the first answer is taken for the second
 abbrev reused : List Event
 reused = ask 1 ∷ hear 1 ∷ giveResult 1 zero02 ∷ getResult 1 (some zero02) ∷ ask 1 ∷ getResult 1 (some zero02) ∷ []
@@ -163,6 +174,7 @@ runs =
     record { atKiosk = tableO; atController = tableN; events = good }
     ∷ record { atKiosk = tableO; atController = tableN; events = spared }
     ∷ record { atKiosk = tableL; atController = tableL; events = linked }
+    ∷ record { atKiosk = tableS; atController = tableS; events = silent }
     ∷ record { atKiosk = tableO; atController = tableN; events = reused }
     ∷ record { atKiosk = tableO; atController = tableN; events = cramped }
     ∷ record { atKiosk = tableO; atController = tableN; events = forged }
@@ -183,6 +195,7 @@ told =
       shown = 1 ∷ 2 ∷ 3 ∷ [];
     }
     ∷ record { refusals = none ∷ none ∷ none ∷ none ∷ none ∷ some (rejecting (Of 1) 0x82 0) ∷ none ∷ none ∷ none ∷ none ∷ []; shown = 1 ∷ [] }
+    ∷ record { refusals = none ∷ none ∷ none ∷ none ∷ []; shown = [] }
     ∷ record { refusals = none ∷ none ∷ none ∷ none ∷ []; shown = [] }
     ∷ record { refusals = none ∷ none ∷ none ∷ none ∷ none ∷ none ∷ []; shown = 1 ∷ 1 ∷ [] }
     ∷ record { refusals = none ∷ none ∷ none ∷ some (plain 2) ∷ []; shown = [] }
