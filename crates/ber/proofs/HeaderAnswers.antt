@@ -198,3 +198,15 @@ header-short {r} s k q n h b w =
 pub header-none : (s : List ℕ) (k : ℕ) → k ≡ identifierOctets s → k ≡ 0 → NoHeader ≡ headerOf s
 unfolding headerOf
 header-none s k q z = cond-true NoHeader _ (eq-eqb _ _ (sym q ∙ z))
+
+-- one octet has no length
+pub header-stub : (s : List ℕ) → length s < 2 → NoHeader ≡ headerOf s
+unfolding headerOf identifierOctets highTag continued lengthOf headerWith
+header-stub [] h = refl
+header-stub (b ∷ []) h = go (oneOf refusedIdentifiers b) (eqb (b % 32) 31)
+  where
+    go : (x y : Bool) → NoHeader ≡ cond (eqb (cond x 0 (cond y 0 1)) 0) NoHeader (headerWith (b ∷ []) (cond x 0 (cond y 0 1)) (lengthOf (drop (cond x 0 (cond y 0 1)) (b ∷ []))))
+    go true y = refl
+    go false true = refl
+    go false false = refl
+header-stub (b ∷ d ∷ s) h = absurd (omega arith)

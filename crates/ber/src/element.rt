@@ -1,5 +1,6 @@
 // The check that octets are elements: document 01, 'Well-formed octets'.
 use crate::header::Header;
+use crate::header::any_header;
 use crate::header::header_of;
 use crate::rule::content_rule;
 ghost use mathlib.Core.Path.{_≡_};
@@ -18,7 +19,7 @@ pub fn element(s: &[u8], levels: usize) -> Checked
     if levels == 0 {
         return Checked::NoElement;
     }
-    match header_of(s) {
+    match any_header(s) {
         Header::NoHeader => Checked::NoElement,
         Header::At { id, start, end } => {
             if is_element(id, &s[start..end], levels - 1) {

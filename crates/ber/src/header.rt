@@ -142,23 +142,37 @@ fn header_with(s: &[u8], k: usize, octets: usize, value: usize) -> Header
     Header::NoHeader
 }
 
-// The header of the element at the front of s. A short length, which most have, is read without more ado.
-pub fn header_of(s: &[u8]) -> Header
+// The header of the element at the front of s, in any form.
+pub fn any_header(s: &[u8]) -> Header
     ensures { λ r. ⌜ r ≡ headerOf (now (s .entry)) ⌝ }
 {
     let k = identifier_octets(s);
     if k == 0 {
         return Header::NoHeader;
     }
-    if k < s.len() {
-        if s[k] < 0x80 {
-            return header_with(s, k, 1, s[k] as usize);
-        }
-    }
     match length_of(&s[k..]) {
         Length::NoLength => Header::NoHeader,
         Length::Is { octets, value } => header_with(s, k, octets, value),
     }
+}
+
+// The same. The form that most have, an identifier and a length of one octet each, is read here, so that it takes no call.
+pub fn header_of(s: &[u8]) -> Header
+    ensures { λ r. ⌜ r ≡ headerOf (now (s .entry)) ⌝ }
+{
+    if s.len() < 2 {
+        return Header::NoHeader;
+    }
+    if s[0] % 32 == 31 {
+        return any_header(s);
+    }
+    if s[1] >= 0x80 {
+        return any_header(s);
+    }
+    if is_refused(s[0]) {
+        return Header::NoHeader;
+    }
+    header_with(s, 1, 1, s[1] as usize)
 }
 
 // How many octets follow 81 to 84 in the shortest form of a length from 80 on.

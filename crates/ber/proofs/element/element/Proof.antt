@@ -11,29 +11,29 @@ returns : tie.Need-returns
 returns c = element-no-level _ _ (c .if1 .taken)
 
 sub-is-element : tie.Need-sub-is-element
-sub-is-element c = omega (arith, header-bounds _ _ _ _ (sym (c .before .before .before .header-of .ensures) ∙ c .before .id .given .1))
+sub-is-element c = omega (arith, header-bounds _ _ _ _ (sym (c .before .before .before .any-header .ensures) ∙ c .before .id .given .1))
 
 part-is-element-start : tie.Need-part-is-element-start
-part-is-element-start c = omega (arith, header-bounds _ _ _ _ (sym (c .before .before .before .header-of .ensures) ∙ c .before .id .given .1))
+part-is-element-start c = omega (arith, header-bounds _ _ _ _ (sym (c .before .before .before .any-header .ensures) ∙ c .before .id .given .1))
 
 part-is-element-end : tie.Need-part-is-element-end
-part-is-element-end c = omega (arith, header-bounds _ _ _ _ (sym (c .before .before .before .header-of .ensures) ∙ c .before .id .given .1))
+part-is-element-end c = omega (arith, header-bounds _ _ _ _ (sym (c .before .before .before .any-header .ensures) ∙ c .before .id .given .1))
 
 returns-2 : tie.Need-returns-2
 returns-2 c =
-    let is-element = c .before in let id = is-element .before .before .before in let header-of = id .before .before in
-    element-good _ _ (header-of .before .if1 .left) _ _ _ (sym (header-of .header-of .ensures) ∙ id .id .given .1)
+    let is-element = c .before in let id = is-element .before .before .before in let any-header = id .before .before in
+    element-good _ _ (any-header .before .if1 .left) _ _ _ (sym (any-header .any-header .ensures) ∙ id .id .given .1)
     (sym (is-element .is-element .ensures) ∙ c .if2 .taken)
 
 returns-3 : tie.Need-returns-3
 returns-3 c =
-    let header-of = c .before .before in
-    element-no-header _ _ (header-of .before .if1 .left) (sym (header-of .header-of .ensures) ∙ c .enum-told .given .1)
+    let any-header = c .before .before in
+    element-no-header _ _ (any-header .before .if1 .left) (sym (any-header .any-header .ensures) ∙ c .enum-told .given .1)
 
 returns-4 : tie.Need-returns-4
 returns-4 c =
-    let is-element = c .before in let id = is-element .before .before .before in let header-of = id .before .before in
-    element-fault _ _ (header-of .before .if1 .left) _ _ _ (sym (header-of .header-of .ensures) ∙ id .id .given .1)
+    let is-element = c .before in let id = is-element .before .before .before in let any-header = id .before .before in
+    element-fault _ _ (any-header .before .if1 .left) _ _ _ (sym (any-header .any-header .ensures) ∙ id .id .given .1)
     (sym (is-element .is-element .ensures) ∙ c .if2 .left)
 
 pub element-spec : {M : Type 1} → statement M
