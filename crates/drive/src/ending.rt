@@ -13,12 +13,16 @@ use protocol::Reception;
 use records::State;
 
 fn state_line(line: &mut [u8], at: usize, state: State) -> usize {
-    let own = state.own;
-    let peer = state.peer;
     let a = words(line, at, b" own ");
-    let b = side_line(line, a, own);
+    let b = side_line(line, a, state.own.count, &state.own.ids, &state.own.codes);
     let c = words(line, b, b" peer ");
-    side_line(line, c, peer)
+    side_line(
+        line,
+        c,
+        state.peer.count,
+        &state.peer.ids,
+        &state.peer.codes,
+    )
 }
 
 // Says if an octet behind what was written is no longer A5.

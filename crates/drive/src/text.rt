@@ -1,6 +1,4 @@
 // Octets as text at a place of a line; each function answers the place behind what it put.
-use records::Code;
-use records::Record;
 use records::Records;
 use records::State;
 
@@ -75,11 +73,14 @@ pub(crate) fn spoiled(s: &[u8]) -> bool {
 }
 
 // How many places to show: those below the count, and those up to the last that is not 0:0.
-fn shown(side: Records) -> usize {
+fn shown<'a>(
+    count: usize,
+    ids: &'a [u32; State::RECORDS],
+    codes: &'a [u32; State::RECORDS],
+) -> usize {
     let mut n = State::RECORDS;
     while 0 < n {
-        let r = side.places[n - 1];
-        if n <= side.count || r.id != 0 || r.code.0 != 0 {
+        if n <= count || ids[n - 1] != 0 || codes[n - 1] != 0 {
             return n;
         }
         n -= 1;
@@ -87,27 +88,30 @@ fn shown(side: Records) -> usize {
     0
 }
 
-fn place(line: &mut [u8], at: usize, r: Record, is_shown: bool) -> usize {
+fn place(line: &mut [u8], at: usize, id: u32, code: u32, is_shown: bool) -> usize {
     if !is_shown {
         return at;
     }
     let a = put(line, at, 32);
-    let b = hex8(line, a, r.id);
+    let b = hex8(line, a, id);
     let c = put(line, b, 58);
-    hex8(line, c, r.code.0)
+    hex8(line, c, code)
 }
 
-fn places(line: &mut [u8], at: usize, side: Records, n: usize) -> usize {
-    let mut k = at;
+// The count and the places of a side, its fields being lent.
+pub(crate) fn side_line<'a>(
+    line: &mut [u8],
+    at: usize,
+    count: usize,
+    ids: &'a [u32; State::RECORDS],
+    codes: &'a [u32; State::RECORDS],
+) -> usize {
+    let n = shown(count, ids, codes);
+    let mut k = hex4(line, at, count);
     for i in 0..State::RECORDS {
-        k = place(line, k, side.places[i], i < n);
+        k = place(line, k, ids[i], codes[i], i < n);
     }
     k
-}
-
-pub(crate) fn side_line(line: &mut [u8], at: usize, side: Records) -> usize {
-    let k = hex4(line, at, side.count);
-    places(line, k, side, shown(side))
 }
 
 pub(crate) fn same(a: &[u8], b: &[u8]) -> bool {
@@ -176,22 +180,17 @@ pub(crate) fn word(s: &[u8], at: usize) -> u32 {
 
 // A side of a state image: a count, then 32 places of id and code.
 pub(crate) fn side_image(s: &[u8], from: usize) -> Records {
-    let mut places = [Record {
-        id: 0,
-        code: Code(0),
-    }; State::RECORDS];
+    let mut ids = [0u32; State::RECORDS];
+    let mut codes = [0u32; State::RECORDS];
     for i in 0..State::RECORDS {
         if from < 1000 {
-            let id = word(s, from + 2 + i * 8);
-            let code = word(s, from + 6 + i * 8);
-            places[i] = Record {
-                id,
-                code: Code(code),
-            };
+            ids[i] = word(s, from + 2 + i * 8);
+            codes[i] = word(s, from + 6 + i * 8);
         }
     }
     Records {
         count: pair_at(s, from),
-        places,
+        ids,
+        codes,
     }
 }

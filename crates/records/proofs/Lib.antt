@@ -1,3 +1,5 @@
+mod Numbers
 pub mod Laws
+pub mod Rows
 pub mod Soundness
 pub mod Steps

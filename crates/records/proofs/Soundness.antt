@@ -13,26 +13,24 @@ use Rattle.records.specs.declared.Record.{Record}
 use Rattle.records.specs.declared.Records.{Records}
 use Rattle.records.specs.declared.State.{State}
 use Rattle.records.specs.Limits.{records}
-use Rattle.records.specs.Records.{sameCode, unused, view, pack, member, without, distinct, blank, soundRecords, added, retired}
+use Rattle.records.specs.Records.{sameCode, unused, places, side, view, pack, member, without, distinct, blank, soundRecords, added, retired}
 use Rattle.records.specs.State.{fresh, soundState}
+use Rattle.records.proofs.Rows.{rows-length, rows-side, side-back, view-pack}
 use Rattle.records.proofs.Laws.{same-code-equal, distinct-added, distinct-without, without-shorter, without-absent}
 
 -- ---- the list and the side that holds it
-
-pub view-pack : (l : List Record) → view (pack l) ≡ l
-view-pack l = take-append-seam l (replicate (records - length l) unused)
 
 one-less : (k : ℕ) → k < records → records - k ≡ suc (records - (k + 1))
 one-less k p = omega arith
 
 -- a record put behind the live ones
 abbrev pub appended : Records → Record → Records
-appended s r = record { count = s .count + 1; places = set (s .places) (s .count) r }
+appended s r = side (s .count + 1) (set (places s) (s .count) r)
 
 pub appended-pack : (l : List Record) (r : Record) → length l < records → appended (pack l) r ≡ pack (l ++ r ∷ [])
 appended-pack l r p =
     let e = one-less (length l) p in
-    simp (e, set-append-seam, length-append, append-assoc)
+    rw (rows-side (length l) (l ++ replicate (records - length l) unused)) (simp (e, set-append-seam, length-append, append-assoc))
 
 pub view-retired : (s : Records) (n : ℕ) → view (retired s n) ≡ without n (view s)
 view-retired s n = view-pack (without n (view s))
@@ -61,32 +59,28 @@ blank-is-unused (r ∷ l) h =
 
 module _ (s : Records) (h : soundRecords s ≡ true) where
   pub sound-is-short : s .count ≤ records
-  sound-is-short = leb-true (s .count) records (and-left (leb (s .count) records) (distinct (view s) && blank (drop (s .count) (s .places))) h)
+  sound-is-short = leb-true (s .count) records (and-left (leb (s .count) records) (distinct (view s) && blank (drop (s .count) (places s))) h)
 
-  behind-count : (distinct (view s) && blank (drop (s .count) (s .places))) ≡ true
-  behind-count = and-right (leb (s .count) records) (distinct (view s) && blank (drop (s .count) (s .places))) h
+  behind-count : (distinct (view s) && blank (drop (s .count) (places s))) ≡ true
+  behind-count = and-right (leb (s .count) records) (distinct (view s) && blank (drop (s .count) (places s))) h
 
   pub sound-is-distinct : distinct (view s) ≡ true
-  sound-is-distinct = and-left (distinct (view s)) (blank (drop (s .count) (s .places))) behind-count
+  sound-is-distinct = and-left (distinct (view s)) (blank (drop (s .count) (places s))) behind-count
 
-  sound-is-blank : blank (drop (s .count) (s .places)) ≡ true
-  sound-is-blank = and-right (distinct (view s)) (blank (drop (s .count) (s .places))) behind-count
-
-made-of : (s : Records) (n : ℕ) (l : List Record) → s .count ≡ n → s .places ≡ l → s ≡ record { count = n; places = l }
-made-of s n l p q =
-    let e : _≡_ {A = Records} (record { count = s .count; places = s .places }) (record { count = n; places = l }) = cc in
-    e
+  sound-is-blank : blank (drop (s .count) (places s)) ≡ true
+  sound-is-blank = and-right (distinct (view s)) (blank (drop (s .count) (places s))) behind-count
 
 -- a sound side is its live records with unused places behind
-pub sound-is-packed : (s : Records) → length (s .places) ≡ records → soundRecords s ≡ true → s ≡ pack (view s)
-sound-is-packed s full h =
+pub sound-is-packed : (s : Records) → length (s .ids) ≡ records → length (s .codes) ≡ records → soundRecords s ≡ true → s ≡ pack (view s)
+sound-is-packed s p q h =
+    let full : length (places s) ≡ records = rows-length (s .ids) (s .codes) ∙ p in
     let few = sound-is-short s h in
-    let n : length (view s) ≡ s .count = length-take-le (s .count) (s .places) (omega arith) in
-    let left : length (drop (s .count) (s .places)) ≡ records - s .count = length-drop (s .count) (s .places) ∙ ap (λ (k : ℕ). k - s .count) full in
-    let clear = blank-is-unused (drop (s .count) (s .places)) (sound-is-blank s h) in
-    let tail : replicate (records - length (view s)) unused ≡ drop (s .count) (s .places) = rw n (sym (clear ∙ ap (λ (k : ℕ). replicate k unused) left)) in
-    let all : view s ++ replicate (records - length (view s)) unused ≡ s .places = rw tail (take-append-drop (s .count) (s .places)) in
-    made-of s (length (view s)) (view s ++ replicate (records - length (view s)) unused) (sym n) (sym all)
+    let n : length (view s) ≡ s .count = length-take-le (s .count) (places s) (omega arith) in
+    let left : length (drop (s .count) (places s)) ≡ records - s .count = length-drop (s .count) (places s) ∙ ap (λ (k : ℕ). k - s .count) full in
+    let clear = blank-is-unused (drop (s .count) (places s)) (sound-is-blank s h) in
+    let tail : replicate (records - length (view s)) unused ≡ drop (s .count) (places s) = rw n (sym (clear ∙ ap (λ (k : ℕ). replicate k unused) left)) in
+    let all : view s ++ replicate (records - length (view s)) unused ≡ places s = rw tail (take-append-drop (s .count) (places s)) in
+    sym (side-back s (p ∙ sym q)) ∙ ap (side (s .count)) (sym all) ∙ ap (λ (k : ℕ). side k (view s ++ replicate (records - length (view s)) unused)) (sym n)
 
 -- what the laws keep of a side: a list in the logic may have any length, so that the side is packed is said beside the test
 pub record Sound (s : Records) : Type 0 where
@@ -96,7 +90,7 @@ pub record Sound (s : Records) : Type 0 where
 pub packed-is-sound : (l : List Record) → length l ≤ records → distinct l ≡ true → Sound (pack l)
 packed-is-sound l few once =
     record {
-      test = simp (le-leb _ _ few, take-append-seam, drop-append-seam, once, blank-replicate);
+      test = rw (rows-side (length l) (l ++ replicate (records - length l) unused)) (simp (le-leb _ _ few, take-append-seam, drop-append-seam, once, blank-replicate));
       packed = ap pack (sym (view-pack l));
     }
 
@@ -116,7 +110,7 @@ module _ {s : Records} (h : Sound s) where
   pub retired-is-sound : (n : ℕ) → Sound (retired s n)
   retired-is-sound n =
       packed-is-sound (without n (view s))
-      (omega (arith, without-shorter n (view s), length-take (s .count) (s .places), sound-is-short s (h .test)))
+      (omega (arith, without-shorter n (view s), length-take (s .count) (places s), sound-is-short s (h .test)))
       (distinct-without n (view s) (sound-is-distinct s (h .test)))
 
   -- validates `retired`: an id that is not there retires nothing
@@ -138,11 +132,11 @@ module _ {s : State} (h : SoundBoth s) where
   pub sound-state : soundState s ≡ true
   sound-state = and-true (h .own .test) (h .peer .test)
 
--- validates `soundState`: where each side has its 32 places, as it has in code, a sound state is its live records with unused places behind
-pub sound-state-packed : (s : State) → length (s .own .places) ≡ records → length (s .peer .places) ≡ records → soundState s ≡ true
-    → s ≡ record { own = pack (view (s .own)); peer = pack (view (s .peer)) }
-sound-state-packed s p q h =
-    let own = sound-is-packed (s .own) p (and-left (soundRecords (s .own)) (soundRecords (s .peer)) h) in
-    let peer = sound-is-packed (s .peer) q (and-right (soundRecords (s .own)) (soundRecords (s .peer)) h) in
+-- validates `soundState`: where each field has its 32 places, as it has in code, a sound state is its live records with unused places behind
+pub sound-state-packed : (s : State) → length (s .own .ids) ≡ records → length (s .own .codes) ≡ records → length (s .peer .ids) ≡ records → length (s .peer .codes) ≡ records
+    → soundState s ≡ true → s ≡ record { own = pack (view (s .own)); peer = pack (view (s .peer)) }
+sound-state-packed s p q u v h =
+    let own = sound-is-packed (s .own) p q (and-left (soundRecords (s .own)) (soundRecords (s .peer)) h) in
+    let peer = sound-is-packed (s .peer) u v (and-right (soundRecords (s .own)) (soundRecords (s .peer)) h) in
     let e : _≡_ {A = State} (record { own = s .own; peer = s .peer }) (record { own = pack (view (s .own)); peer = pack (view (s .peer)) }) = cc in
     e

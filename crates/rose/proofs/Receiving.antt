@@ -19,7 +19,7 @@ use Rattle.protocol.proofs.Checks.{passed}
 use Rattle.rose.specs.declared.verdict.Verdict.{Verdict}
 use Rattle.rose.specs.declared.verdict.Verdict.the-variants.{Passes}
 use Rattle.rose.specs.declared.arrival.Arrival.{Arrival}
-use Rattle.rose.specs.Steps.{Judged, receptionWrites, RefusalWritten, Arrives}
+use Rattle.rose.specs.Steps.{Judged, after, Arrives, receptionWrites, RefusalWritten}
 use Rattle.rose.proofs.Calls.{all-pass, performs}
 
 -- a Reject takes at most 11 octets
@@ -50,17 +50,18 @@ module _ (T : List ℕ) (s : State) (x before : List ℕ) (v : Verdict) (g : Jud
   unfolding laterChecks
   room = ltb-false (length before) leastRoom (passed (checks T s (receive x (length before))) (all-pass T s (receive x (length before)) v g o) 2)
 
-  module _ (z : Arrival) (a : Arrives T s x (parse x) z) (after : List ℕ) (n : ℕ) (w : RefusalWritten (z .reception) before after n) where
+  -- t is the state as z changes it
+  module _ (z : Arrival) (a : Arrives T s x (parse x) z) (t : State) (e : t ≡ after s (z .change)) (out : List ℕ) (n : ℕ) (w : RefusalWritten (z .reception) before out n) where
     is-written : writtenBy (receiveApdu T s x (parse x)) ≡ receptionWrites (z .reception)
-    is-written = ap writtenBy (sym (a .answers)) ∙ writes x (z .reception) (z .state)
+    is-written = ap writtenBy (sym (a .answers)) ∙ writes x (z .reception) (after s (z .change))
 
     fits : length (receptionWrites (z .reception)) ≤ length before
     fits = omega (arith, room, writes-most (z .reception))
 
-    pub received : ReceivePromise (perform T s (receive x (length before))) s x before after (record { state = z .state; reception = z .reception; written = n })
+    pub received : ReceivePromise (perform T s (receive x (length before))) s x before out (record { state = t; reception = z .reception; written = n })
     received =
         record {
-          answers = rw receives (reads x (z .reception) _ (z .state) _ (sym (a .state)) is-written ∙ a .answers);
-          state = rw receives (a .state);
+          answers = rw receives (reads x (z .reception) _ (after s (z .change)) _ (sym (a .state)) is-written ∙ a .answers);
+          state = rw receives (e ∙ a .state);
           written = record { octets = rw (receives, is-written) (w .octets fits); counted = rw (receives, is-written) (w .counted fits) };
         }

@@ -3,7 +3,7 @@ use Prim.Native.Nat.{ℕ, _+_, _≤_, _<_}
 use mathlib.Core.Path.{_≡_, refl, sym, ap, _∙_}
 use mathlib.Core.Bool.{Bool, true, false, cond, _&&_, _||_}
 use mathlib.Core.List.{List, [], _∷_}
-use lib.ListN.{length, drop, getD, drop-of-length-le}
+use lib.ListN.{length, drop, drop-of-length-le}
 use lib.Dec.{eqb}
 use borrow.Author.Tests.{eq-eqb, ne-eqb}
 use Rattle.base.proofs.Tests.{cond-true, cond-false}
@@ -11,10 +11,9 @@ use Rattle.records.specs.declared.Code.{Code}
 use Rattle.records.specs.declared.Record.{Record}
 use Rattle.records.specs.declared.Records.{Records}
 use Rattle.records.specs.declared.State.{State}
-use Rattle.records.specs.declared.Found.{Found}
 use Rattle.records.specs.declared.Found.the-variants.{Operation}
-use Rattle.records.specs.Records.{unused, view, member, lookup}
-use Rattle.records.proofs.Steps.{left-at}
+use Rattle.records.specs.Records.{view, member, lookup}
+use Rattle.records.proofs.Steps.{here, left-at}
 use Rattle.optable.specs.declared.Operation.{Operation as Named}
 use Rattle.optable.specs.Validity.{valid}
 use Rattle.optable.specs.Lookup.{operationOf, listed, classOf}
@@ -31,13 +30,9 @@ found-member n (r ∷ l) = go (eqb (r .id) n) (found-member n l)
     go true ih = refl
     go false ih = ih
 
--- what is said of a record that was found
-pub found-is-member : {f : Found} {b : Bool} (n : ℕ) (l : List Record) → f ≡ lookup n l → b ≡ isFound f → b ≡ member n l
-found-is-member {f} {b} n l e p = p ∙ ap isFound e ∙ found-member n l
-
 -- ---- one turn of the loops over a side, o being the operation of the record at i
 
-module _ (T : List ℕ) (s : Records) (i : ℕ) (p : i < length (view s)) (o : Named) (e : o ≡ operationOf T (getD (s .places) i unused .code)) where
+module _ (T : List ℕ) (s : Records) (i : ℕ) (p : i < length (view s)) (o : Named) (e : o ≡ operationOf T (here s i .code)) where
   covered-at : covered T (drop i (view s)) ≡ (listed o && covered T (drop (i + 1) (view s)))
   covered-at = ap (covered T) (left-at s i p) ∙ ap (λ (n : Named). listed n && covered T (drop (i + 1) (view s))) (sym e)
 
@@ -62,26 +57,25 @@ covered-end T l i h = ap (covered T) (drop-of-length-le l h)
 pub busy-end : (T : List ℕ) (l : List Record) (i : ℕ) → length l ≤ i → isBusy T (drop i l) ≡ false
 busy-end T l i h = ap (isBusy T) (drop-of-length-le l h)
 
--- ---- 1
+-- ---- 1, which asks for the records only where the table is valid
 
-pub not-usable : (T : List ℕ) (s : State) → valid T ≡ false → usable T s ≡ false
+pub usable-is : (T : List ℕ) (s : State) (a b : Bool) → (valid T ≡ true → a ≡ covered T (ownRecords s)) → (valid T ≡ true → b ≡ covered T (peerRecords s)) → (valid T && (a && b)) ≡ usable T s
 unfolding usable
-not-usable T s v = rw v refl
-
-pub usable-is : (T : List ℕ) (s : State) → valid T ≡ true → (covered T (ownRecords s) && covered T (peerRecords s)) ≡ usable T s
-unfolding usable
-usable-is T s v = rw v refl
+usable-is T s a b p q = go (valid T) p q
+  where
+    go : (v : Bool) → (v ≡ true → a ≡ covered T (ownRecords s)) → (v ≡ true → b ≡ covered T (peerRecords s)) → (v && (a && b)) ≡ (v && (covered T (ownRecords s) && covered T (peerRecords s)))
+    go true x y = rw (x refl, y refl) refl
+    go false x y = refl
 
 -- ---- a record more, unless the class makes none
 
-module _ (T : List ℕ) (s : State) (c : Code) (class : ℕ) (e : class ≡ classOf (operationOf T c)) where
+module _ (T : List ℕ) (c : Code) (class : ℕ) (e : class ≡ classOf (operationOf T c)) (s t : State) where
   silent-is : (b : Bool) → eqb class 5 ≡ b → isSilent T c ≡ b
   silent-is b q = ap (λ (n : ℕ). eqb n 5) (sym e) ∙ q
 
   -- t is the state with the record
-  module _ (t : State) where
-    pub no-record : class ≡ 5 → s ≡ cond (isSilent T c) s t
-    no-record h = cond-true s t (silent-is true (eq-eqb class 5 h))
+  pub no-record : class ≡ 5 → s ≡ cond (isSilent T c) s t
+  no-record h = cond-true s t (silent-is true (eq-eqb class 5 h))
 
-    pub one-record : (class ≡ 5 → ⊥) → t ≡ cond (isSilent T c) s t
-    one-record h = cond-false s t (silent-is false (ne-eqb class 5 h))
+  pub one-record : (class ≡ 5 → ⊥) → t ≡ cond (isSilent T c) s t
+  one-record h = cond-false s t (silent-is false (ne-eqb class 5 h))

@@ -5,6 +5,7 @@ use mathlib.Core.Path.{_≡_}
 use mathlib.Core.Bool.{Bool, true, false, cond, not, _&&_, _||_}
 use mathlib.Core.List.{List, [], _∷_, _++_}
 use mathlib.Core.Option.{Option, some, none}
+use Rattle.records.specs.declared.Records.{Records}
 use Rattle.records.specs.declared.State.{State}
 use Rattle.records.specs.declared.Found.{Found}
 use Rattle.records.specs.declared.Found.the-variants.{Operation, Nothing}
@@ -19,7 +20,7 @@ use Rattle.apdu.specs.declared.CodeField.the-variants.{Local, Other}
 use Rattle.apdu.specs.Parse.{Apdu}
 use lib.ListN.{length, drop}
 use lib.Dec.{eqb, leb}
-use Rattle.records.specs.State.{retireOwn, retirePeer}
+use Rattle.records.specs.State.{addPeer, retireOwn, retirePeer}
 use Rattle.protocol.specs.declared.Invocation.{Invocation}
 use Rattle.protocol.specs.declared.Invocation.the-variants.{Own, Peer}
 use Rattle.protocol.specs.declared.Reception.{Reception}
@@ -27,7 +28,7 @@ use Rattle.protocol.specs.declared.Reception.the-variants.{Indicated, Refused a
 use Rattle.protocol.specs.declared.Outcome.the-variants.{Accepted}
 use Rattle.protocol.specs.declared.Requested.{Requested}
 use Rattle.protocol.specs.declared.Received.{Received}
-use Rattle.protocol.specs.Call.{Call, Refusal, plain, refused, rejectWritten, stateAfter}
+use Rattle.protocol.specs.Call.{Call, Answer, Refusal, plain, refused, rejectWritten, stateAfter}
 use Rattle.protocol.specs.Check.{Check, codeFound, shared}
 use Rattle.protocol.specs.Perform.{checks}
 use Rattle.protocol.specs.Receive.{receiveApdu}
@@ -37,6 +38,8 @@ use Rattle.rose.specs.declared.verdict.Verdict.the-variants.{Passes, Fai
 use Rattle.rose.specs.declared.usable.Parent.{Parent}
 use Rattle.rose.specs.declared.usable.Parent.the-variants.{Unlinked, Linked}
 use Rattle.rose.specs.declared.arrival.Arrival.{Arrival}
+use Rattle.rose.specs.declared.change.Change.{Change}
+use Rattle.rose.specs.declared.change.Change.the-variants.{Unchanged, Adds, Retires}
 
 -- the refusal of the first check that fails
 abbrev pub first : List Check → Option Refusal
@@ -61,10 +64,24 @@ Opened T s v = readVerdict plain v ≡ first (shared T s)
 abbrev pub Judged : List ℕ → State → Call → Verdict → Type 0
 Judged T s c v = readVerdict plain v ≡ first (checks T s c)
 
--- what a received APDU p in the octets x is answered: the indication or refusal, and the state then
-pub record Arrives (T : List ℕ) (s : State) (x : List ℕ) (p : Apdu) (r : Arrival) : Type 0 where
-  pub answers : readReception x (r .reception) (r .state) [] ≡ receiveApdu T s x p
-  pub state : r .state ≡ stateAfter s (receiveApdu T s x p)
+-- the state of two sides
+abbrev pub both : Records → Records → State
+both own peer = record { own = own; peer = peer }
+
+-- the state as a received APDU changes it
+abbrev pub after : State → Change → State
+after s Unchanged = s
+after s (Adds i c) = addPeer s i c
+after s (Retires i) = retireOwn s i
+
+-- what becomes of a received APDU in the octets x is this answer: its indication or refusal, and the state then
+pub record Answers (x : List ℕ) (s : State) (a : Answer) (r : Arrival) : Type 0 where
+  pub answers : readReception x (r .reception) (after s (r .change)) [] ≡ a
+  pub state : after s (r .change) ≡ stateAfter s a
+
+-- what becomes of the received APDU p is as defined
+abbrev pub Arrives : List ℕ → State → List ℕ → Apdu → Arrival → Type 0
+Arrives T s x p r = Answers x s (receiveApdu T s x p) r
 
 abbrev pub isFound : Found → Bool
 isFound (Operation c) = true

@@ -1,12 +1,14 @@
 // A received APDU: 3 and 2, then the problem that it is refused with, or what it is indicated as.
+use crate::change::Change;
+use crate::change::added;
 use crate::problem::check_error;
 use crate::problem::check_invoke;
 use crate::problem::check_result;
 use crate::problem::field_code;
+use crate::usable::Parent;
 use crate::usable::code_found;
 use crate::usable::operation_named;
-use crate::usable::own_found;
-use crate::usable::with_peer;
+use crate::usable::own_parent;
 use crate::verdict::Verdict;
 use apdu::Body;
 use apdu::CodeField;
@@ -17,25 +19,29 @@ use apdu::Value;
 use protocol::Indication;
 use protocol::Reception;
 use protocol::Refusal;
+use records::Found;
 use records::OwnId;
 use records::PeerId;
 use records::State;
+use records::lent::own_found;
 ghost use mathlib.Core.Path.{_≡_};
 ghost use mathlib.Core.Bool.{true};
-ghost use mathlib.Core.List.{List, []};
+ghost use mathlib.Core.List.{List};
 ghost use Prim.Native.Nat.{ℕ};
 ghost use lib.ListN.{length, getD};
 ghost use lib.Dec.{eqb};
-ghost use Rattle.records.specs.State.{retireOwn};
+ghost use Rattle.records.specs.declared.Records.{Records};
+ghost use Rattle.records.specs.Records.{lent, view, lookup};
 ghost use Rattle.optable.specs.Validity.{valid};
 ghost use Rattle.apdu.specs.declared.Number.the-variants.{Of};
 ghost use Rattle.apdu.specs.Parse.{invoke, result, error, parse};
 ghost use Rattle.apdu.specs.Reading.{readOwnLink, readValue, readBody, readParsed};
 ghost use Rattle.protocol.specs.declared.Refusal.the-variants.{Rejected};
 ghost use Rattle.protocol.specs.Call.{receive, refused};
+ghost use Rattle.protocol.specs.Check.{ownRecords};
 ghost use Rattle.protocol.specs.Receive.{fault};
-ghost use Rattle.protocol.specs.Reading.{readReception};
-ghost use Rattle.rose.specs.Steps.{Opened, Judged, Arrives};
+ghost use Rattle.rose.specs.declared.change.Change.the-variants.{Unchanged};
+ghost use Rattle.rose.specs.Steps.{both, parentIn, Opened, Judged, Answers, Arrives};
 
 // The checks of receive behind 19 and 1.
 pub(crate) fn check_receive(opened: Verdict, octets: usize, room: usize) -> Verdict
@@ -46,48 +52,44 @@ pub(crate) fn check_receive(opened: Verdict, octets: usize, room: usize) -> Verd
 
 // What becomes of a received APDU.
 pub(crate) struct Arrival {
-    pub state: State,
     pub reception: Reception,
+    pub change: Change,
 }
 
-fn refused(state: State, why: Refusal) -> Arrival
-    ensures { λ r. ⌜ r ≡ record { state = state; reception = Reception.Refused why } ⌝ }
+fn refused(why: Refusal) -> Arrival
+    ensures { λ r. ⌜ r ≡ record { reception = Reception.Refused why; change = Unchanged } ⌝ }
 {
     Arrival {
-        state,
         reception: Reception::Refused(why),
+        change: Change::Unchanged,
     }
 }
 
 // Refused with a problem of the received id.
-fn rejected(state: State, id: u32, kind: u8, number: u8) -> Arrival
-    ensures { λ r. ⌜ r ≡ record { state = state; reception = Reception.Refused (Rejected (Of id) kind number) } ⌝ }
+fn rejected(id: u32, kind: u8, number: u8) -> Arrival
+    ensures { λ r. ⌜ r ≡ record { reception = Reception.Refused (Rejected (Of id) kind number); change = Unchanged } ⌝ }
 {
-    refused(
-        state,
-        Refusal::Rejected {
-            id: Number::Of(id),
-            kind,
-            problem: number,
-        },
-    )
+    refused(Refusal::Rejected {
+        id: Number::Of(id),
+        kind,
+        problem: number,
+    })
 }
 
-fn indicated(state: State, indication: Indication) -> Arrival
-    ensures { λ r. ⌜ r ≡ record { state = state; reception = Reception.Indicated indication } ⌝ }
+fn indicated(indication: Indication, change: Change) -> Arrival
+    ensures { λ r. ⌜ r ≡ record { reception = Reception.Indicated indication; change = change } ⌝ }
 {
     Arrival {
-        state,
         reception: Reception::Indicated(indication),
+        change,
     }
 }
 
-// Indicated, and the own record of the id is retired: an accepted result or error, or an invoke problem.
-fn concluded(state: State, id: OwnId, said: Indication) -> Arrival
-    ensures { λ r. ⌜ r ≡ record { state = retireOwn state id; reception = Reception.Indicated said } ⌝ }
+// Indicated, and no record is touched.
+fn told(indication: Indication) -> Arrival
+    ensures { λ r. ⌜ r ≡ record { reception = Reception.Indicated indication; change = Unchanged } ⌝ }
 {
-    let next = state.retire_own(id);
-    indicated(next, said)
+    indicated(indication, Change::Unchanged)
 }
 
 fn starts_reject(x: &[u8]) -> bool
@@ -100,24 +102,23 @@ fn starts_reject(x: &[u8]) -> bool
 }
 
 // Steps 1 and 2: a general problem, or 17 if the first octet is A4.
-fn arrive_wrong(state: State, x: &[u8], number: u8, id: Number) -> Arrival
-    ensures { λ r. ⌜ (readReception (now (x .entry)) (r .reception) (r .state) [] ≡ refused (fault (now (x .entry)) number id)) × (r .state ≡ state) ⌝ }
+fn arrive_wrong(x: &[u8], number: u8, id: Number) -> Arrival
+    ensures { λ r. ⌜ ((s : State) → Answers (now (x .entry)) s (refused (fault (now (x .entry)) number id)) r) ⌝ }
 {
     if starts_reject(x) {
-        return refused(state, Refusal::UnacceptableReject);
+        return refused(Refusal::UnacceptableReject);
     }
-    refused(
-        state,
-        Refusal::Rejected {
-            id,
-            kind: 0x80,
-            problem: number,
-        },
-    )
+    refused(Refusal::Rejected {
+        id,
+        kind: 0x80,
+        problem: number,
+    })
 }
 
 fn arrive_invoke(
-    state: State,
+    parent: Parent,
+    count: usize,
+    ids: &[u32; State::RECORDS],
     table: &[u8],
     x: &[u8],
     id: PeerId,
@@ -126,51 +127,43 @@ fn arrive_invoke(
     value: Value,
 ) -> Arrival
     requires { ⌜ valid (now table) ≡ true ⌝ }
-    ensures { λ r. ⌜ Arrives (now (table .entry)) state (now (x .entry)) (invoke (id .0) (readOwnLink linked) field (readValue (now (x .entry)) value)) r ⌝ }
+    ensures { λ r. ⌜ ((own : Records) (codes : List ℕ) → parent ≡ parentIn (readOwnLink linked) (view own) → Arrives (now (table .entry)) (both own (lent count (now (ids .entry)) codes)) (now (x .entry)) (invoke (id .0) (readOwnLink linked) field (readValue (now (x .entry)) value)) r) ⌝ }
 {
     let code = field_code(field);
     let named = operation_named(table, code);
-    match check_invoke(state, table, x, named, id, linked, field, value) {
-        Verdict::Fails(number) => rejected(state, id.0, 0x81, number),
-        Verdict::Passes => {
-            let next = with_peer(state, named.class(), id, code);
-            indicated(
-                next,
-                Indication::Invoke {
-                    id,
-                    linked,
-                    code,
-                    argument: value,
-                },
-            )
-        }
+    match check_invoke(parent, count, ids, table, x, named, id, field, value) {
+        Verdict::Fails(number) => rejected(id.0, 0x81, number),
+        Verdict::Passes => indicated(
+            Indication::Invoke {
+                id,
+                linked,
+                code,
+                argument: value,
+            },
+            added(named.class(), id, code),
+        ),
     }
 }
 
-fn arrive_result(state: State, table: &[u8], x: &[u8], id: OwnId, body: Body) -> Arrival
+fn arrive_result(found: Found, table: &[u8], x: &[u8], id: OwnId, body: Body) -> Arrival
     requires { ⌜ valid (now table) ≡ true ⌝ }
-    ensures { λ r. ⌜ Arrives (now (table .entry)) state (now (x .entry)) (result (id .0) (readBody (now (x .entry)) body)) r ⌝ }
+    ensures { λ r. ⌜ ((s : State) → found ≡ lookup (id .0) (ownRecords s) → Arrives (now (table .entry)) s (now (x .entry)) (result (id .0) (readBody (now (x .entry)) body)) r) ⌝ }
 {
-    let found = own_found(state, id);
     match check_result(found, table, x, id, body) {
-        Verdict::Fails(number) => rejected(state, id.0, 0x82, number),
-        Verdict::Passes => {
-            let operation = code_found(found);
-            concluded(
-                state,
+        Verdict::Fails(number) => rejected(id.0, 0x82, number),
+        Verdict::Passes => indicated(
+            Indication::Result {
                 id,
-                Indication::Result {
-                    id,
-                    body,
-                    operation,
-                },
-            )
-        }
+                body,
+                operation: code_found(found),
+            },
+            Change::Retires(id),
+        ),
     }
 }
 
 fn arrive_error(
-    state: State,
+    found: Found,
     table: &[u8],
     x: &[u8],
     id: OwnId,
@@ -178,55 +171,73 @@ fn arrive_error(
     value: Value,
 ) -> Arrival
     requires { ⌜ valid (now table) ≡ true ⌝ }
-    ensures { λ r. ⌜ Arrives (now (table .entry)) state (now (x .entry)) (error (id .0) field (readValue (now (x .entry)) value)) r ⌝ }
+    ensures { λ r. ⌜ ((s : State) → found ≡ lookup (id .0) (ownRecords s) → Arrives (now (table .entry)) s (now (x .entry)) (error (id .0) field (readValue (now (x .entry)) value)) r) ⌝ }
 {
-    let found = own_found(state, id);
     match check_error(found, table, x, id, field, value) {
-        Verdict::Fails(number) => rejected(state, id.0, 0x83, number),
-        Verdict::Passes => {
-            let operation = code_found(found);
-            concluded(
-                state,
+        Verdict::Fails(number) => rejected(id.0, 0x83, number),
+        Verdict::Passes => indicated(
+            Indication::Error {
                 id,
-                Indication::Error {
-                    id,
-                    code: field_code(field),
-                    parameter: value,
-                    operation,
-                },
-            )
-        }
+                code: field_code(field),
+                parameter: value,
+                operation: code_found(found),
+            },
+            Change::Retires(id),
+        ),
     }
 }
 
 // A received APDU that was parsed, behind 19, 1, 3 and 2. Of the Rejects only one of an Invoke retires a record.
-pub(crate) fn arrive(state: State, table: &[u8], x: &[u8], parsed: Parsed) -> Arrival
+pub(crate) fn arrive<'a>(
+    own_count: usize,
+    own_ids: &'a [u32; State::RECORDS],
+    own_codes: &'a [u32; State::RECORDS],
+    peer_count: usize,
+    peer_ids: &'a [u32; State::RECORDS],
+    table: &[u8],
+    x: &[u8],
+    parsed: Parsed,
+) -> Arrival
     requires { ⌜ (valid (now table) ≡ true) × (readParsed (now x) parsed ≡ parse (now x)) ⌝ }
-    ensures { λ r. ⌜ Arrives (now (table .entry)) state (now (x .entry)) (parse (now (x .entry))) r ⌝ }
+    ensures { λ r. ⌜ ((codes : List ℕ) → Arrives (now (table .entry)) (both (lent «own_count» (now («own_ids» .entry)) (now («own_codes» .entry))) (lent «peer_count» (now («peer_ids» .entry)) codes)) (now (x .entry)) (parse (now (x .entry))) r) ⌝ }
 {
     match parsed {
-        Parsed::BadlyStructured => arrive_wrong(state, x, 2, Number::Absent),
-        Parsed::Unrecognized => arrive_wrong(state, x, 0, Number::Absent),
-        Parsed::Mistyped(id) => arrive_wrong(state, x, 1, id),
+        Parsed::BadlyStructured => arrive_wrong(x, 2, Number::Absent),
+        Parsed::Unrecognized => arrive_wrong(x, 0, Number::Absent),
+        Parsed::Mistyped(id) => arrive_wrong(x, 1, id),
         Parsed::Invoke {
             id,
             linked,
             code,
             value,
-        } => arrive_invoke(state, table, x, id, linked, code, value),
-        Parsed::Result { id, body } => arrive_result(state, table, x, id, body),
-        Parsed::Error { id, code, value } => arrive_error(state, table, x, id, code, value),
-        Parsed::InvokeReject { id, problem } => {
-            concluded(state, id, Indication::InvokeRejected { id, problem })
+        } => {
+            let parent = own_parent(own_count, own_ids, own_codes, linked);
+            arrive_invoke(
+                parent,
+                peer_count,
+                peer_ids,
+                table,
+                x,
+                id,
+                linked,
+                code,
+                value,
+            )
         }
-        Parsed::ResultReject { id, problem } => {
-            indicated(state, Indication::ResultRejected { id, problem })
+        Parsed::Result { id, body } => {
+            let found = own_found(own_count, own_ids, own_codes, id);
+            arrive_result(found, table, x, id, body)
         }
-        Parsed::ErrorReject { id, problem } => {
-            indicated(state, Indication::ErrorRejected { id, problem })
+        Parsed::Error { id, code, value } => {
+            let found = own_found(own_count, own_ids, own_codes, id);
+            arrive_error(found, table, x, id, code, value)
         }
-        Parsed::GeneralReject { id, problem } => {
-            indicated(state, Indication::GeneralReject { id, problem })
-        }
+        Parsed::InvokeReject { id, problem } => indicated(
+            Indication::InvokeRejected { id, problem },
+            Change::Retires(id),
+        ),
+        Parsed::ResultReject { id, problem } => told(Indication::ResultRejected { id, problem }),
+        Parsed::ErrorReject { id, problem } => told(Indication::ErrorRejected { id, problem }),
+        Parsed::GeneralReject { id, problem } => told(Indication::GeneralReject { id, problem }),
     }
 }

@@ -1,6 +1,7 @@
 // The six calls over a state by value, a lent table, lent octets and a lent output: document 01, 'Receiving' and 'Requests'.
 mod answer;
 mod arrival;
+mod change;
 mod forgetting;
 mod problem;
 mod request;
@@ -20,6 +21,8 @@ use apdu::encode::write_result;
 use apdu::parse::parse;
 use arrival::arrive;
 use arrival::check_receive;
+use change::changed;
+use change::with_own;
 use forgetting::check_forget;
 use forgetting::forgotten;
 use protocol::Invocation;
@@ -29,6 +32,7 @@ use records::Code;
 use records::OwnId;
 use records::PeerId;
 use records::State;
+use records::lent::peer_found;
 use request::check_error;
 use request::check_invoke;
 use request::check_reject;
@@ -36,8 +40,7 @@ use request::check_result;
 use usable::code_found;
 use usable::opening;
 use usable::operation_named;
-use usable::peer_found;
-use usable::with_own;
+use usable::peer_parent;
 use verdict::Verdict;
 ghost use mathlib.Core.List.{[]};
 ghost use lib.ListN.{length};
@@ -50,15 +53,33 @@ ghost use Rattle.protocol.specs.Reading.{forgetting, ReceivePromise, RequestPro
 pub fn receive(state: State, table: &[u8], apdu: &[u8], out: &mut [u8]) -> Received
     ensures { λ r. ⌜ ReceivePromise (perform (now (table .entry)) state (receive (now (apdu .entry)) (length (now (out .entry))))) state (now (apdu .entry)) (now (out .entry)) (now (out .exit)) r ⌝ }
 {
-    match check_receive(opening(state, table), apdu.len(), out.len()) {
+    let opened = opening(
+        state.own.count,
+        &state.own.ids,
+        &state.own.codes,
+        state.peer.count,
+        &state.peer.ids,
+        &state.peer.codes,
+        table,
+    );
+    match check_receive(opened, apdu.len(), out.len()) {
         Verdict::Fails(why) => unheard(state, why),
         Verdict::Passes => {
-            let arrival = arrive(state, table, apdu, parse(apdu));
-            let next = arrival.state;
+            let arrival = arrive(
+                state.own.count,
+                &state.own.ids,
+                &state.own.codes,
+                state.peer.count,
+                &state.peer.ids,
+                table,
+                apdu,
+                parse(apdu),
+            );
             let reception = arrival.reception;
+            let change = arrival.change;
             let written = write_answer(out, reception);
             Received {
-                state: next,
+                state: changed(state, change),
                 reception,
                 written,
             }
@@ -78,11 +99,23 @@ pub fn invoke(
 ) -> Requested
     ensures { λ r. ⌜ RequestPromise (perform (now (table .entry)) state (invoke (id .0) code (readPeerLink linked) (now (value .entry)) (length (now (out .entry))))) state (now (out .entry)) (now (out .exit)) r ⌝ }
 {
-    let opened = opening(state, table);
+    let opened = opening(
+        state.own.count,
+        &state.own.ids,
+        &state.own.codes,
+        state.peer.count,
+        &state.peer.ids,
+        &state.peer.codes,
+        table,
+    );
     let named = operation_named(table, code);
+    let parent = peer_parent(state.peer.count, &state.peer.ids, &state.peer.codes, linked);
     match check_invoke(
         opened,
-        state,
+        state.own.count,
+        &state.own.ids,
+        &state.own.codes,
+        parent,
         table,
         named,
         id,
@@ -103,8 +136,16 @@ pub fn invoke(
 pub fn result(state: State, table: &[u8], id: PeerId, value: &[u8], out: &mut [u8]) -> Requested
     ensures { λ r. ⌜ RequestPromise (perform (now (table .entry)) state (result (id .0) (now (value .entry)) (length (now (out .entry))))) state (now (out .entry)) (now (out .exit)) r ⌝ }
 {
-    let opened = opening(state, table);
-    let found = peer_found(state, id);
+    let opened = opening(
+        state.own.count,
+        &state.own.ids,
+        &state.own.codes,
+        state.peer.count,
+        &state.peer.ids,
+        &state.peer.codes,
+        table,
+    );
+    let found = peer_found(state.peer.count, &state.peer.ids, &state.peer.codes, id);
     match check_result(opened, found, table, id, value, out.len()) {
         Verdict::Fails(why) => refused(state, why),
         Verdict::Passes => {
@@ -125,8 +166,16 @@ pub fn error(
 ) -> Requested
     ensures { λ r. ⌜ RequestPromise (perform (now (table .entry)) state (error (id .0) code (now (value .entry)) (length (now (out .entry))))) state (now (out .entry)) (now (out .exit)) r ⌝ }
 {
-    let opened = opening(state, table);
-    let found = peer_found(state, id);
+    let opened = opening(
+        state.own.count,
+        &state.own.ids,
+        &state.own.codes,
+        state.peer.count,
+        &state.peer.ids,
+        &state.peer.codes,
+        table,
+    );
+    let found = peer_found(state.peer.count, &state.peer.ids, &state.peer.codes, id);
     match check_error(opened, found, table, id, code, value, out.len()) {
         Verdict::Fails(why) => refused(state, why),
         Verdict::Passes => {
@@ -140,8 +189,16 @@ pub fn error(
 pub fn reject(state: State, table: &[u8], id: PeerId, problem: u8, out: &mut [u8]) -> Requested
     ensures { λ r. ⌜ RequestPromise (perform (now (table .entry)) state (reject (id .0) problem (length (now (out .entry))))) state (now (out .entry)) (now (out .exit)) r ⌝ }
 {
-    let opened = opening(state, table);
-    let found = peer_found(state, id);
+    let opened = opening(
+        state.own.count,
+        &state.own.ids,
+        &state.own.codes,
+        state.peer.count,
+        &state.peer.ids,
+        &state.peer.codes,
+        table,
+    );
+    let found = peer_found(state.peer.count, &state.peer.ids, &state.peer.codes, id);
     match check_reject(opened, found, table, id, problem, out.len()) {
         Verdict::Fails(why) => refused(state, why),
         Verdict::Passes => {
@@ -155,7 +212,25 @@ pub fn reject(state: State, table: &[u8], id: PeerId, problem: u8, out: &mut [u8
 pub fn forget(state: State, table: &[u8], invocation: Invocation) -> Requested
     ensures { λ r. ⌜ RequestPromise (perform (now (table .entry)) state (forgetting invocation)) state [] [] r ⌝ }
 {
-    match check_forget(opening(state, table), state, table, invocation) {
+    let opened = opening(
+        state.own.count,
+        &state.own.ids,
+        &state.own.codes,
+        state.peer.count,
+        &state.peer.ids,
+        &state.peer.codes,
+        table,
+    );
+    match check_forget(
+        opened,
+        state.own.count,
+        &state.own.ids,
+        state.peer.count,
+        &state.peer.ids,
+        &state.peer.codes,
+        table,
+        invocation,
+    ) {
         Verdict::Fails(why) => refused(state, why),
         Verdict::Passes => accepted(forgotten(state, invocation), 0),
     }

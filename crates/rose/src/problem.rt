@@ -1,7 +1,7 @@
 // The problems of a received Invoke, Result and Error, in document 01's order of check.
+use crate::usable::Parent;
 use crate::usable::code_found;
 use crate::usable::error_named;
-use crate::usable::has_peer;
 use crate::usable::is_childless;
 use crate::usable::is_class;
 use crate::usable::is_found;
@@ -9,11 +9,9 @@ use crate::usable::is_missing;
 use crate::usable::is_no_child;
 use crate::usable::lacks_room;
 use crate::usable::operation_named;
-use crate::usable::own_parent;
 use crate::verdict::Verdict;
 use apdu::Body;
 use apdu::CodeField;
-use apdu::OwnLink;
 use apdu::Value;
 use apdu::parse::octets_of;
 use optable::Operation;
@@ -25,21 +23,24 @@ use records::Found;
 use records::OwnId;
 use records::PeerId;
 use records::State;
+use records::lent::has_peer;
 ghost use mathlib.Core.Path.{_≡_};
 ghost use mathlib.Core.Bool.{true};
 ghost use mathlib.Core.List.{List};
 ghost use Prim.Native.Nat.{ℕ};
 ghost use Rattle.apdu.specs.declared.Number.the-variants.{Of};
-ghost use Rattle.records.specs.Records.{lookup};
+ghost use Rattle.records.specs.declared.Records.{Records};
+ghost use Rattle.records.specs.Records.{lent, view, lookup};
 ghost use Rattle.protocol.specs.Call.{rejecting};
 ghost use Rattle.protocol.specs.Check.{ownRecords};
 ghost use Rattle.optable.specs.Validity.{valid};
 ghost use Rattle.optable.specs.Lookup.{operationOf};
 ghost use Rattle.optable.specs.Value.{valueRight};
 ghost use Rattle.apdu.specs.Field.{octetsOf};
-ghost use Rattle.apdu.specs.Reading.{readOwnLink, readValue, readBody};
+ghost use Rattle.apdu.specs.declared.Number.{Number};
+ghost use Rattle.apdu.specs.Reading.{readValue, readBody};
 ghost use Rattle.protocol.specs.Receive.{fieldCode, bodyValue, otherCode, invokeChecks, resultChecks, errorChecks};
-ghost use Rattle.rose.specs.Steps.{first, readVerdict, isLocal};
+ghost use Rattle.rose.specs.Steps.{both, first, readVerdict, parentIn, isLocal};
 
 pub(crate) fn field_code(field: CodeField) -> Code
     ensures { λ r. ⌜ r ≡ fieldCode field ⌝ }
@@ -74,30 +75,30 @@ fn is_right(rule: Rule, x: &[u8], value: Value) -> bool
     }
 }
 
-// The checks of an Invoke, given the operation of its code, which its indication needs too.
+// The checks of an Invoke, given its parent and the operation of its code, which its indication needs too.
 pub(crate) fn check_invoke(
-    state: State,
+    parent: Parent,
+    count: usize,
+    ids: &[u32; State::RECORDS],
     table: &[u8],
     x: &[u8],
     named: Operation,
     id: PeerId,
-    linked: OwnLink,
     field: CodeField,
     value: Value,
 ) -> Verdict
     requires { ⌜ (valid (now table) ≡ true) × (named ≡ operationOf (now table) (fieldCode field)) ⌝ }
-    ensures { λ r. ⌜ readVerdict (rejecting (Of (id .0)) 0x81) r ≡ first (invokeChecks (now (table .entry)) state (id .0) (readOwnLink linked) field (readValue (now (x .entry)) value)) ⌝ }
+    ensures { λ r. ⌜ ((own : Records) (codes : List ℕ) (linked : Number) → parent ≡ parentIn linked (view own) → readVerdict (rejecting (Of (id .0)) 0x81) r ≡ first (invokeChecks (now (table .entry)) (both own (lent count (now (ids .entry)) codes)) (id .0) linked field (readValue (now (x .entry)) value))) ⌝ }
 {
     let code = field_code(field);
-    let parent = own_parent(state, linked);
     Verdict::Passes
-        .then(has_peer(state, id), 0)
+        .then(has_peer(count, ids, id), 0)
         .then(is_missing(parent), 5)
         .then(is_childless(table, parent), 6)
         .then(!(is_local(field) & named.is_listed()), 1)
         .then(!is_right(named.argument(), x, value), 2)
         .then(is_no_child(table, parent, code), 7)
-        .then(lacks_room(named.class(), state.peer), 3)
+        .then(lacks_room(named.class(), count, ids), 3)
 }
 
 // Whether a code is present and is not the record's.

@@ -1,7 +1,7 @@
 // The checks of the requests, in document 01's order: each list goes on from the verdict on 19 and 1.
+use crate::usable::Parent;
 use crate::usable::code_found;
 use crate::usable::error_named;
-use crate::usable::has_own;
 use crate::usable::is_busy;
 use crate::usable::is_class;
 use crate::usable::is_found;
@@ -9,7 +9,6 @@ use crate::usable::is_missing;
 use crate::usable::is_no_child;
 use crate::usable::lacks_room;
 use crate::usable::operation_named;
-use crate::usable::peer_parent;
 use crate::verdict::Verdict;
 use apdu::Number;
 use apdu::PeerLink;
@@ -26,6 +25,7 @@ use records::Found;
 use records::OwnId;
 use records::PeerId;
 use records::State;
+use records::lent::has_own;
 ghost use mathlib.Core.Path.{_≡_};
 ghost use mathlib.Core.Bool.{true, not, _&&_};
 ghost use lib.Dec.{leb};
@@ -35,11 +35,12 @@ ghost use Rattle.optable.specs.Validity.{valid};
 ghost use Rattle.optable.specs.Lookup.{operationOf};
 ghost use Rattle.base.specs.Lists.{nonEmpty};
 ghost use Rattle.protocol.specs.Call.{invoke, result, error, reject};
-ghost use Rattle.records.specs.Records.{lookup};
+ghost use Rattle.records.specs.declared.Records.{Records};
+ghost use Rattle.records.specs.Records.{lent, view, lookup};
 ghost use Rattle.protocol.specs.Check.{valueWell, peerRecords};
 ghost use Rattle.protocol.specs.Perform.{isUserProblem};
 ghost use Rattle.apdu.specs.Reading.{readPeerLink};
-ghost use Rattle.rose.specs.Steps.{Opened, Judged};
+ghost use Rattle.rose.specs.Steps.{both, Opened, Judged, parentIn};
 
 // A value, empty for none, is one well-formed element of at most so many levels.
 fn is_well(value: &[u8], levels: usize) -> bool
@@ -68,10 +69,13 @@ fn is_large(fits: bool, size: usize) -> bool
     !((size <= State::OCTETS) & fits)
 }
 
-// The checks of an invoke behind 19 and 1, given the operation of its code, which the call itself needs too.
-pub(crate) fn check_invoke(
+// The checks of an invoke behind 19 and 1, given its parent and the operation of its code, which the call itself needs too.
+pub(crate) fn check_invoke<'a>(
     opened: Verdict,
-    state: State,
+    count: usize,
+    ids: &'a [u32; State::RECORDS],
+    codes: &'a [u32; State::RECORDS],
+    parent: Parent,
     table: &[u8],
     named: Operation,
     id: OwnId,
@@ -80,21 +84,19 @@ pub(crate) fn check_invoke(
     value: &[u8],
     room: usize,
 ) -> Verdict
-    ensures { λ r. ⌜ (Opened (now (table .entry)) state opened → (valid (now (table .entry)) ≡ true → named ≡ operationOf (now (table .entry)) code) → Judged (now (table .entry)) state (invoke (id .0) code (readPeerLink linked) (now (value .entry)) room) r) ⌝ }
+    ensures { λ r. ⌜ ((peer : Records) → parent ≡ parentIn (readPeerLink linked) (view peer) → Opened (now (table .entry)) (both (lent count (now (ids .entry)) (now (codes .entry))) peer) opened → (valid (now (table .entry)) ≡ true → named ≡ operationOf (now (table .entry)) code) → Judged (now (table .entry)) (both (lent count (now (ids .entry)) (now (codes .entry))) peer) (invoke (id .0) code (readPeerLink linked) (now (value .entry)) room) r) ⌝ }
 {
-    let own = state.own;
-    let parent = peer_parent(state, linked);
     let fits = is_well(value, State::LEVELS - 1);
     let size = invoke_size(id, linked, code, value);
     opened
         .then(!named.is_listed(), 4)
-        .then(has_own(state, id), 5)
-        .then(is_busy(table, own), 6)
+        .then(has_own(count, ids, id), 5)
+        .then(is_busy(table, count, ids, codes), 6)
         .then(is_missing(parent), 7)
         .then(is_no_child(table, parent, code), 8)
         .then(!is_well_formed(value, fits), 9)
         .then(!value_right(named.argument(), value), 10)
-        .then(lacks_room(named.class(), own), 14)
+        .then(lacks_room(named.class(), count, ids), 14)
         .then(is_large(fits, size), 15)
         .then(room < size, 2)
 }

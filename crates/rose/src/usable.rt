@@ -11,24 +11,22 @@ use optable::operation_of;
 use optable::valid;
 use records::Code;
 use records::Found;
-use records::OwnId;
-use records::PeerId;
-use records::Records;
 use records::State;
+use records::lent::live;
+use records::lent::own_found;
+use records::lent::peer_found;
+use records::lent::sound;
 ghost use mathlib.Core.Path.{_≡_};
 ghost use mathlib.Core.List.{List};
 ghost use Prim.Native.Nat.{ℕ};
-ghost use Rattle.records.specs.Records.{view, lookup, member};
+ghost use Rattle.records.specs.Records.{lent, view};
 ghost use Rattle.optable.specs.Validity.{valid};
 ghost use Rattle.optable.specs.Lookup.{operationOf, classOf, errorOf};
 ghost use mathlib.Core.Bool.{true, not, _&&_};
 ghost use lib.Dec.{eqb};
-ghost use Rattle.protocol.specs.Call.{plain};
 ghost use Rattle.apdu.specs.Reading.{readOwnLink, readPeerLink};
-ghost use Rattle.protocol.specs.Check.{codeFound, ownRecords, peerRecords, isClass, isFull, covered, isBusy, shared};
-ghost use Rattle.protocol.specs.Perform.{withOwn};
-ghost use Rattle.protocol.specs.Receive.{withPeer};
-ghost use Rattle.rose.specs.Steps.{first, readVerdict, isFound, parentIn, missing, childless, noChild};
+ghost use Rattle.protocol.specs.Check.{codeFound, isClass, isFull, covered, isBusy};
+ghost use Rattle.rose.specs.Steps.{both, Opened, isFound, parentIn, missing, childless, noChild};
 
 // The operation of a code in a valid table.
 pub(crate) fn operation_named(table: &[u8], code: Code) -> Operation
@@ -37,16 +35,19 @@ pub(crate) fn operation_named(table: &[u8], code: Code) -> Operation
     operation_of(table, code)
 }
 
-// Whether the table has the code of every live record of a side.
-fn covers(table: &[u8], side: Records) -> bool
-    requires { ⌜ valid (now table) ≡ true ⌝ }
-    ensures { λ r. ⌜ r ≡ covered (now (table .entry)) (view side) ⌝ }
+// Whether a valid table has the code of every live record of a side.
+fn covers<'a>(
+    table: &[u8],
+    count: usize,
+    ids: &'a [u32; State::RECORDS],
+    codes: &'a [u32; State::RECORDS],
+) -> bool
+    ensures { λ r. ⌜ (valid (now (table .entry)) ≡ true → r ≡ covered (now (table .entry)) (view (lent count (now (ids .entry)) (now (codes .entry))))) ⌝ }
 {
-    let n = side.live();
+    let n = live(count, ids);
     let mut i: usize = 0;
     while i < n {
-        let r = side.places[i];
-        let named = operation_named(table, r.code);
+        let named = operation_named(table, Code(codes[i]));
         if !named.is_listed() {
             return false;
         }
@@ -56,14 +57,18 @@ fn covers(table: &[u8], side: Records) -> bool
 }
 
 // Whether a class 1 record of a side is live, by a valid table.
-pub(crate) fn is_busy(table: &[u8], side: Records) -> bool
-    ensures { λ r. ⌜ (valid (now (table .entry)) ≡ true → r ≡ isBusy (now (table .entry)) (view side)) ⌝ }
+pub(crate) fn is_busy<'a>(
+    table: &[u8],
+    count: usize,
+    ids: &'a [u32; State::RECORDS],
+    codes: &'a [u32; State::RECORDS],
+) -> bool
+    ensures { λ r. ⌜ (valid (now (table .entry)) ≡ true → r ≡ isBusy (now (table .entry)) (view (lent count (now (ids .entry)) (now (codes .entry))))) ⌝ }
 {
-    let n = side.live();
+    let n = live(count, ids);
     let mut i: usize = 0;
     while i < n {
-        let r = side.places[i];
-        let named = operation_named(table, r.code);
+        let named = operation_named(table, Code(codes[i]));
         if named.class() == 1 {
             return true;
         }
@@ -73,18 +78,22 @@ pub(crate) fn is_busy(table: &[u8], side: Records) -> bool
 }
 
 // 19 and 1, which come first in every call.
-pub(crate) fn opening(state: State, table: &[u8]) -> Verdict
-    ensures { λ r. ⌜ readVerdict plain r ≡ first (shared (now (table .entry)) state) ⌝ }
+pub(crate) fn opening<'a>(
+    own_count: usize,
+    own_ids: &'a [u32; State::RECORDS],
+    own_codes: &'a [u32; State::RECORDS],
+    peer_count: usize,
+    peer_ids: &'a [u32; State::RECORDS],
+    peer_codes: &'a [u32; State::RECORDS],
+    table: &[u8],
+) -> Verdict
+    ensures { λ r. ⌜ Opened (now (table .entry)) (both (lent «own_count» (now («own_ids» .entry)) (now («own_codes» .entry))) (lent «peer_count» (now («peer_ids» .entry)) (now («peer_codes» .entry)))) r ⌝ }
 {
-    if !state.sound() {
-        return Verdict::Fails(19);
-    }
-    if !valid(table) {
-        return Verdict::Fails(1);
-    }
-    let own = state.own;
-    let peer = state.peer;
-    Verdict::Passes.then(!(covers(table, own) & covers(table, peer)), 1)
+    let is_sound = sound(own_count, own_ids, own_codes) & sound(peer_count, peer_ids, peer_codes);
+    let own = covers(table, own_count, own_ids, own_codes);
+    let peer = covers(table, peer_count, peer_ids, peer_codes);
+    let is_usable = valid(table) & (own & peer);
+    Verdict::Passes.then(!is_sound, 19).then(!is_usable, 1)
 }
 
 // Whether a record was found.
@@ -107,22 +116,6 @@ pub(crate) fn code_found(found: Found) -> Code
     }
 }
 
-// The own record of an id.
-pub(crate) fn own_found(state: State, id: OwnId) -> Found
-    ensures { λ r. ⌜ r ≡ lookup (id .0) (ownRecords state) ⌝ }
-{
-    let looked = state.find_own(id);
-    looked.found
-}
-
-// The peer record of an id.
-pub(crate) fn peer_found(state: State, id: PeerId) -> Found
-    ensures { λ r. ⌜ r ≡ lookup (id .0) (peerRecords state) ⌝ }
-{
-    let looked = state.find_peer(id);
-    looked.found
-}
-
 // What a linked id leads to: nothing where none is linked, else what the lookup on its side found.
 pub(crate) enum Parent {
     Unlinked,
@@ -130,21 +123,31 @@ pub(crate) enum Parent {
 }
 
 // The parent of a received Invoke is an invocation that this end made.
-pub(crate) fn own_parent(state: State, linked: OwnLink) -> Parent
-    ensures { λ r. ⌜ r ≡ parentIn (readOwnLink linked) (ownRecords state) ⌝ }
+pub(crate) fn own_parent<'a>(
+    count: usize,
+    ids: &'a [u32; State::RECORDS],
+    codes: &'a [u32; State::RECORDS],
+    linked: OwnLink,
+) -> Parent
+    ensures { λ r. ⌜ r ≡ parentIn (readOwnLink linked) (view (lent count (now (ids .entry)) (now (codes .entry)))) ⌝ }
 {
     match linked {
-        OwnLink::To(id) => Parent::Linked(own_found(state, id)),
+        OwnLink::To(id) => Parent::Linked(own_found(count, ids, codes, id)),
         OwnLink::Absent => Parent::Unlinked,
     }
 }
 
 // The parent of an invoke request is an invocation that this end received.
-pub(crate) fn peer_parent(state: State, linked: PeerLink) -> Parent
-    ensures { λ r. ⌜ r ≡ parentIn (readPeerLink linked) (peerRecords state) ⌝ }
+pub(crate) fn peer_parent<'a>(
+    count: usize,
+    ids: &'a [u32; State::RECORDS],
+    codes: &'a [u32; State::RECORDS],
+    linked: PeerLink,
+) -> Parent
+    ensures { λ r. ⌜ r ≡ parentIn (readPeerLink linked) (view (lent count (now (ids .entry)) (now (codes .entry)))) ⌝ }
 {
     match linked {
-        PeerLink::To(id) => Parent::Linked(peer_found(state, id)),
+        PeerLink::To(id) => Parent::Linked(peer_found(count, ids, codes, id)),
         PeerLink::Absent => Parent::Unlinked,
     }
 }
@@ -179,46 +182,14 @@ pub(crate) fn is_no_child(table: &[u8], parent: Parent, code: Code) -> bool
     }
 }
 
-pub(crate) fn has_own(state: State, id: OwnId) -> bool
-    ensures { λ r. ⌜ r ≡ member (id .0) (ownRecords state) ⌝ }
-{
-    is_found(own_found(state, id))
-}
-
-pub(crate) fn has_peer(state: State, id: PeerId) -> bool
-    ensures { λ r. ⌜ r ≡ member (id .0) (peerRecords state) ⌝ }
-{
-    is_found(peer_found(state, id))
-}
-
-// The state with an own record more, unless the class of its operation makes none.
-pub(crate) fn with_own(state: State, class: u8, id: OwnId, code: Code) -> State
-    ensures { λ r. ⌜ ((T : List ℕ) → class ≡ classOf (operationOf T code) → r ≡ withOwn T state (id .0) code) ⌝ }
-{
-    if class == 5 {
-        return state;
-    }
-    state.add_own(id, code)
-}
-
-// The state with a peer record more, unless the class of its operation makes none.
-pub(crate) fn with_peer(state: State, class: u8, id: PeerId, code: Code) -> State
-    ensures { λ r. ⌜ ((T : List ℕ) → class ≡ classOf (operationOf T code) → r ≡ withPeer T state (id .0) code) ⌝ }
-{
-    if class == 5 {
-        return state;
-    }
-    state.add_peer(id, code)
-}
-
 // Whether a class that makes a record finds its side full.
-pub(crate) fn lacks_room(class: u8, side: Records) -> bool
-    ensures { λ r. ⌜ r ≡ (not (eqb class 5) && isFull (view side)) ⌝ }
+pub(crate) fn lacks_room(class: u8, count: usize, ids: &[u32; State::RECORDS]) -> bool
+    ensures { λ r. ⌜ ((codes : List ℕ) → r ≡ (not (eqb class 5) && isFull (view (lent count (now (ids .entry)) codes)))) ⌝ }
 {
     if class == 5 {
         return false;
     }
-    side.live() >= State::RECORDS
+    live(count, ids) >= State::RECORDS
 }
 
 pub(crate) fn is_class(a: u8, b: u8, class: u8) -> bool

@@ -1,21 +1,31 @@
 -- The refusal of the first check that fails, or the APDU and the new state.
 use mathlib.Core.Path.{_≡_, refl}
 use lib.ListN.{length}
-use Rattle.protocol.specs.Call.{error}
+use Rattle.protocol.specs.Call.{Call, error}
 use Rattle.protocol.specs.Perform.{done}
 use Rattle.protocol.proofs.Facts.{error-facts}
 use Rattle.rose.proofs.Calls.{request-refused, request-accepted, all-pass, sent-fits}
 use Rattle.rose.specs.declared.verdict.Verdict.the-variants.{Passes}
+use Rattle.rose.specs.Steps.{Judged}
 use borrow.Author.Needs.{needs}
 use Rattle.rose.proofs.error.Statement.{statement}
 use Rattle.rose.proofs.error.Tie as tie
 
+abbrev start : tie.After-check-error → tie.Start
+start c = c .before .before .before .before .before .before .before .before .before .before .before .before .before .before
+
+abbrev call : tie.Start → Call
+call c = error (c .args .id .0) (c .args .code) (c .args .value .now) (length (c .args .out .now))
+
+verdict : (c : tie.After-check-error) → Judged (start c .args .table .now) (start c .args .t1) (call (start c)) (c .check-error .result)
+verdict c =
+    let found = c .before in
+    c .check-error .ensures (start c .args .t1) (found .before .before .before .before .opening .ensures) (found .peer-found .ensures)
+
 returns : tie.Need-returns
 returns c =
-    let why = c .before .before in let checked = why .before .before in let found = checked .before in let opened = found .before in
-    let start = opened .before .before .before .before in
-    request-refused (start .args .table .now) (start .args .state) (error (start .args .id .0) (start .args .code) (start .args .value .now) (length (start .args .out .now))) _
-    (checked .check-error .ensures (start .args .state) (opened .opening .ensures) (found .peer-found .ensures)) (why .why .given .0 .0) (cc) (start .args .out .now) _ (c .refused .ensures)
+    let why = c .before .before in let checked = why .before .before in let b = start checked .args in
+    request-refused (b .table .now) (b .t1) (call (start checked)) _ (verdict checked) (why .why .given .0 .0) (cc) (b .out .now) _ (c .refused .ensures)
 
 passes : (a : tie.After-enum-told) → a .before .before .check-error .result ≡ Passes
 passes a = cc
@@ -24,13 +34,11 @@ returns-2 : tie.Need-returns-2
 unfolding done
 returns-2 c =
     let retired = c .before in let written = retired .before .before .before in let told = written .before .before in
-    let checked = told .before .before in let found = checked .before in let opened = found .before in
-    let start = opened .before .before .before .before in
-    let T = start .args .table .now in let s = start .args .state in let g = (checked .check-error .ensures (start .args .state) (opened .opening .ensures) (found .peer-found .ensures)) in
-    let passed = all-pass T s (error (start .args .id .0) (start .args .code) (start .args .value .now) (length (start .args .out .now))) _ g (passes told) in
-    request-accepted T s (error (start .args .id .0) (start .args .code) (start .args .value .now) (length (start .args .out .now))) _ g (passes told) _ (_)
-    (rw (retired .retire-peer .ensures) refl) (start .args .out .now) _ _
-    (sent-fits 1 (start .args .value .now) _ (start .args .out .now) (error-facts (start .args .table .now) (start .args .state) (start .args .id .0) (start .args .value .now) (length (start .args .out .now)) (start .args .code) passed .sendable)) (written .write-error .ensures) _ (c .accepted .ensures)
+    let checked = told .before .before in let b = start checked .args in let T = b .table .now in let s = b .t1 in
+    let passed = all-pass T s (call (start checked)) _ (verdict checked) (passes told) in
+    request-accepted T s (call (start checked)) _ (verdict checked) (passes told) _ (_)
+    (rw (retired .retire-peer .ensures) refl) (b .out .now) _ _
+    (sent-fits 1 (b .value .now) _ (b .out .now) (error-facts T s (b .id .0) (b .value .now) (length (b .out .now)) (b .code) passed .sendable)) (written .write-error .ensures) _ (c .accepted .ensures)
 
 pub error-spec : {M : Type 1} → statement M
 error-spec =

@@ -1,22 +1,35 @@
 -- The refusal of the first check that fails, or the new state.
+use mathlib.Core.Path.{_≡_}
 use mathlib.Core.List.{[]}
 use Rattle.protocol.specs.Reading.{forgetting}
+use Rattle.rose.specs.declared.verdict.Verdict.the-variants.{Passes}
+use Rattle.rose.specs.Steps.{Judged}
 use Rattle.rose.proofs.Calls.{request-refused, forget-accepted}
 use borrow.Author.Needs.{needs}
 use Rattle.rose.proofs.forget.Statement.{statement}
 use Rattle.rose.proofs.forget.Tie as tie
 
+abbrev opened : tie.After-check-forget → tie.After-opening
+opened c = c .before .before .before .before .before
+
+abbrev start : tie.After-check-forget → tie.Start
+start c = opened c .before .before .before .before .before .before .before
+
+verdict : (c : tie.After-check-forget) → Judged (start c .args .table .now) (start c .args .t1) (forgetting (start c .args .invocation)) (c .check-forget .result)
+verdict c = c .check-forget .ensures (start c .args .t1 .own .codes) (opened c .opening .ensures)
+
 returns : tie.Need-returns
 returns c =
-    let why = c .before .before in let checked = why .before .before in let opened = checked .before in let start = opened .before .before in
-    request-refused (start .args .table .now) (start .args .state) (forgetting (start .args .invocation)) _
-    (checked .check-forget .ensures (opened .opening .ensures)) (why .why .given .0 .0) (cc) [] _ (c .refused .ensures)
+    let why = c .before .before in let checked = why .before .before in let b = start checked .args in
+    request-refused (b .table .now) (b .t1) (forgetting (b .invocation)) _ (verdict checked) (why .why .given .0 .0) (cc) [] _ (c .refused .ensures)
+
+passes : (a : tie.After-enum-told) → a .before .before .check-forget .result ≡ Passes
+passes a = cc
 
 returns-2 : tie.Need-returns-2
 returns-2 c =
-    let next = c .before in let checked = next .before .before .before in let opened = checked .before in let start = opened .before .before in
-    forget-accepted (start .args .table .now) (start .args .state) (start .args .invocation) _ (checked .check-forget .ensures (opened .opening .ensures)) (cc) _
-    (next .forgotten .ensures) _ (c .accepted .ensures)
+    let next = c .before in let told = next .before in let checked = told .before .before in let b = start checked .args in
+    forget-accepted (b .table .now) (b .t1) (b .invocation) _ (verdict checked) (passes told) _ (next .forgotten .ensures) _ (c .accepted .ensures)
 
 pub forget-spec : {M : Type 1} → statement M
 forget-spec =

@@ -1,23 +1,34 @@
 -- The refusal of the first check that fails, or the APDU and the new state.
-use mathlib.Core.Path.{_≡_, refl}
+use mathlib.Core.Path.{_≡_, refl, ap, _∙_}
 use lib.ListN.{length}
-use Rattle.protocol.specs.Call.{result}
+use Rattle.protocol.specs.Call.{Call, result}
+use Rattle.protocol.specs.Check.{codeFound, codeIn, peerRecords}
 use Rattle.protocol.specs.Perform.{done}
 use Rattle.protocol.proofs.Facts.{result-facts}
 use Rattle.base.specs.Lists.{nonEmpty}
 use Rattle.apdu.specs.Encode.{encodeResult}
 use Rattle.rose.proofs.Calls.{request-refused, request-accepted, all-pass, sent-fits}
 use Rattle.rose.specs.declared.verdict.Verdict.the-variants.{Passes}
+use Rattle.rose.specs.Steps.{Judged}
 use borrow.Author.Needs.{needs}
 use Rattle.rose.proofs.result.Statement.{statement}
 use Rattle.rose.proofs.result.Tie as tie
 
+abbrev start : tie.After-check-result → tie.Start
+start c = c .before .before .before .before .before .before .before .before .before .before .before .before .before .before
+
+abbrev call : tie.Start → Call
+call c = result (c .args .id .0) (c .args .value .now) (length (c .args .out .now))
+
+verdict : (c : tie.After-check-result) → Judged (start c .args .table .now) (start c .args .t1) (call (start c)) (c .check-result .result)
+verdict c =
+    let found = c .before in
+    c .check-result .ensures (start c .args .t1) (found .before .before .before .before .opening .ensures) (found .peer-found .ensures)
+
 returns : tie.Need-returns
 returns c =
-    let why = c .before .before in let checked = why .before .before in let found = checked .before in let opened = found .before in
-    let start = opened .before .before .before .before in
-    request-refused (start .args .table .now) (start .args .state) (result (start .args .id .0) (start .args .value .now) (length (start .args .out .now))) _
-    (checked .check-result .ensures (start .args .state) (opened .opening .ensures) (found .peer-found .ensures)) (why .why .given .0 .0) (cc) (start .args .out .now) _ (c .refused .ensures)
+    let why = c .before .before in let checked = why .before .before in let b = start checked .args in
+    request-refused (b .table .now) (b .t1) (call (start checked)) _ (verdict checked) (why .why .given .0 .0) (cc) (b .out .now) _ (c .refused .ensures)
 
 passes : (a : tie.After-enum-told) → a .before .before .check-result .result ≡ Passes
 passes a = cc
@@ -26,17 +37,15 @@ returns-2 : tie.Need-returns-2
 unfolding done
 returns-2 c =
     let retired = c .before in let written = retired .before .before .before in let code = written .before in let told = code .before .before in
-    let checked = told .before .before in let found = checked .before in let opened = found .before in
-    let start = opened .before .before .before .before in
-    let T = start .args .table .now in let s = start .args .state in let g = (checked .check-result .ensures (start .args .state) (opened .opening .ensures) (found .peer-found .ensures)) in
-    let passed = all-pass T s (result (start .args .id .0) (start .args .value .now) (length (start .args .out .now))) _ g (passes told) in
-    request-accepted T s (result (start .args .id .0) (start .args .value .now) (length (start .args .out .now))) _ g (passes told) _ (encodeResult (start .args .id .0) (code .code-found .result) (nonEmpty (start .args .value .now)))
-    (rw (retired .retire-peer .ensures, code .code-found .ensures, found .peer-found .ensures) refl) (start .args .out .now) _ _
-    (sent-fits 2 (start .args .value .now) _ (start .args .out .now) (rw (code .code-found .ensures, found .peer-found .ensures) (result-facts (start .args .table .now) (start .args .state) (start .args .id .0) (start .args .value .now) (length (start .args .out .now)) passed .sendable))) (written .write-result .ensures) _ (c .accepted .ensures)
+    let checked = told .before .before in let b = start checked .args in let T = b .table .now in let s = b .t1 in
+    let passed = all-pass T s (call (start checked)) _ (verdict checked) (passes told) in
+    let same : code .code-found .result ≡ codeIn (peerRecords s) (b .id .0) = code .code-found .ensures ∙ ap codeFound (checked .before .peer-found .ensures) in
+    request-accepted T s (call (start checked)) _ (verdict checked) (passes told) _ (encodeResult (b .id .0) (code .code-found .result) (nonEmpty (b .value .now)))
+    (rw (retired .retire-peer .ensures, same) refl) (b .out .now) _ _
+    (sent-fits 2 (b .value .now) _ (b .out .now) (rw same (result-facts T s (b .id .0) (b .value .now) (length (b .out .now)) passed .sendable))) (written .write-result .ensures) _ (c .accepted .ensures)
 
 pub result-spec : {M : Type 1} → statement M
 result-spec =
     tie.close
     (tie.spec (λ c κs. search needs) (λ c κs. search needs) (λ c κs. search needs) (λ c. search needs) (λ c κs. search needs)
-    (λ c. search needs) (λ c κs. search needs) (λ c κs. search needs) (λ c κs. search needs) (λ c κs. search needs) returns
-    (λ c. search needs) returns-2)
+    (λ c. search needs) (λ c κs. search needs) (λ c κs. search needs) (λ c κs. search needs) (λ c κs. search needs) returns (λ c. search needs) returns-2)

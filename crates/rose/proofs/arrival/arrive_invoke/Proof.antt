@@ -1,6 +1,6 @@
 -- A problem, or an indication.
 use mathlib.Core.Path.{_≡_, refl, ap, _∙_}
-use Rattle.rose.proofs.Arrivals.{has-problem, has-none, on-invoke}
+use Rattle.records.specs.Records.{lent}
 use Rattle.optable.specs.Lookup.{operationOf, classOf}
 use Rattle.apdu.specs.Parse.{invoke}
 use Rattle.apdu.specs.Reading.{readOwnLink, readValue}
@@ -8,6 +8,8 @@ use Rattle.protocol.specs.declared.Indication.the-variants.{Invoke}
 use Rattle.protocol.specs.Receive.{invokeChecks}
 use Rattle.protocol.specs.Reading.{readIndication}
 use Rattle.rose.specs.declared.verdict.Verdict.the-variants.{Passes, Fails}
+use Rattle.rose.specs.Steps.{both}
+use Rattle.rose.proofs.Arrivals.{has-problem, has-none, on-invoke}
 use borrow.Author.Needs.{needs}
 use Rattle.rose.proofs.arrival.arrive_invoke.Statement.{statement}
 use Rattle.rose.proofs.arrival.arrive_invoke.Tie as tie
@@ -24,18 +26,23 @@ passed : (a : tie.After-enum-told) → a .before .before .check-invoke .result �
 passed a = cc
 
 returns : tie.Need-returns
-returns c =
-    let number = c .before .before in let checked = number .before .before in let start = checked .before .before .before .before .before in
-    has-problem (start .args .table .now) (start .args .state) (start .args .x .now) (invoke (start .args .id .0) (readOwnLink (start .args .linked)) (start .args .field) (readValue (start .args .x .now) (start .args .value))) (start .args .id .0) 0x81 (invokeChecks (start .args .table .now) (start .args .state) (start .args .id .0) (readOwnLink (start .args .linked)) (start .args .field) (readValue (start .args .x .now) (start .args .value))) _
-    (on-invoke (start .args .table .now) (start .args .state) (start .args .x .now) (start .args .id .0) (readOwnLink (start .args .linked)) (start .args .field) (readValue (start .args .x .now) (start .args .value))) _ (checked .check-invoke .ensures) _ (number .number .given .0 .0) (failed number) (c .rejected .ensures)
+returns c = λ own codes e.
+    let number = c .before .before in let checked = number .before .before in let b = checked .before .before .before .before .before .args in
+    let T = b .table .now in let x = b .x .now in let s = both own (lent (b .count) (b .ids .now) codes) in
+    let i = b .id .0 in let l = readOwnLink (b .linked) in let f = b .field in let v = readValue x (b .value) in
+    has-problem T s x (invoke i l f v) i 0x81 (invokeChecks T s i l f v) _ (on-invoke T s x i l f v) _ (checked .check-invoke .ensures own codes l e) _ (number .number .given .0 .0)
+    (failed number) (c .rejected .ensures)
 
 returns-2 : tie.Need-returns-2
 unfolding readIndication
-returns-2 c =
-    let next = c .before in let class = next .before in let checked = class .before .before .before in let named = checked .before in
-    let code = named .before in let start = code .before .before .before in
-    has-none (start .args .table .now) (start .args .state) (start .args .x .now) (invoke (start .args .id .0) (readOwnLink (start .args .linked)) (start .args .field) (readValue (start .args .x .now) (start .args .value))) (start .args .id .0) 0x81 (invokeChecks (start .args .table .now) (start .args .state) (start .args .id .0) (readOwnLink (start .args .linked)) (start .args .field) (readValue (start .args .x .now) (start .args .value))) _
-    (on-invoke (start .args .table .now) (start .args .state) (start .args .x .now) (start .args .id .0) (readOwnLink (start .args .linked)) (start .args .field) (readValue (start .args .x .now) (start .args .value))) _ (checked .check-invoke .ensures) _ (passed (class .before)) _ (Invoke (start .args .id) (start .args .linked) (code .field-code .result) (start .args .value)) (rw (next .with-peer .ensures (start .args .table .now) (class .class .ensures ∙ ap classOf (named .operation-named .ensures (start .pre))), code .field-code .ensures) refl) (c .indicated .ensures)
+returns-2 c = λ own codes e.
+    let added = c .before in let class = added .before in let told = class .before in let checked = told .before .before in let named = checked .before in
+    let code = named .before in let start = code .before .before .before in let b = start .args in
+    let T = b .table .now in let x = b .x .now in let s = both own (lent (b .count) (b .ids .now) codes) in
+    let i = b .id .0 in let l = readOwnLink (b .linked) in let f = b .field in let v = readValue x (b .value) in
+    has-none T s x (invoke i l f v) i 0x81 (invokeChecks T s i l f v) _ (on-invoke T s x i l f v) _ (checked .check-invoke .ensures own codes l e) _ (passed told) (added .added .result)
+    (Invoke (b .id) (b .linked) (code .field-code .result) (b .value))
+    (rw (added .added .ensures T s (class .class .ensures ∙ ap classOf (named .operation-named .ensures (start .pre))), code .field-code .ensures) refl) (c .indicated .ensures)
 
 pub arrive-invoke-spec : {M : Type 1} → statement M
 arrive-invoke-spec =

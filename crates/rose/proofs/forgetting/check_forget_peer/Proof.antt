@@ -11,15 +11,15 @@ use Rattle.rose.proofs.forgetting.check_forget_peer.Tie as tie
 
 returns : tie.Need-returns
 unfolding laterChecks
-returns c = λ o.
+returns c = λ s o e.
     let is-class = c .before in let class = is-class .before in let eleven = class .before in let is-found = eleven .before in
-    let named = is-found .before in let code = named .before in let found = code .before in let start = found .before .before in
-    judged (start .args .table .now) (start .args .state) (forget peer (start .args .id .0)) _ _ o
-    (made (eleven .then .ensures) (λ _. rw (is-found .is-found .ensures, found .peer-found .ensures, found-member (start .args .id .0) (peerRecords (start .args .state))) refl)
-    (made (c .then2 .ensures) (λ h. rw (is-class .is-class .ensures, class .class .ensures, named .operation-named .ensures h, code .code-found .ensures, found .peer-found .ensures) refl) last))
+    let named = is-found .before in let code = named .before in let start = code .before .before in
+    judged (start .args .table .now) s (forget peer (start .args .id .0)) _ _ o
+    (made (eleven .then .ensures) (λ _. rw (is-found .is-found .ensures, e, found-member (start .args .id .0) (peerRecords s)) refl)
+    (made (c .then2 .ensures) (λ h. rw (is-class .is-class .ensures, class .class .ensures, named .operation-named .ensures h, code .code-found .ensures, e) refl) last))
 
 pub check-forget-peer-spec : {M : Type 1} → statement M
 check-forget-peer-spec =
     tie.close
     (tie.spec (λ c κs. search needs) (λ c κs. search needs) (λ c κs. search needs) (λ c κs. search needs) (λ c κs. search needs)
-    (λ c κs. search needs) (λ c κs. search needs) (λ c κs. search needs) returns)
+    (λ c κs. search needs) (λ c κs. search needs) returns)

@@ -1,41 +1,34 @@
--- 19, 1 by the table, 1 by a side, or neither.
-use mathlib.Core.Path.{refl}
+-- 19, then 1.
+use mathlib.Core.Path.{refl, ap}
 use mathlib.Core.Bool.{not}
-use mathlib.Core.List.{[], _∷_}
-use Rattle.base.proofs.Tests.{said-no, said-yes}
+use Rattle.records.specs.declared.State.{State}
+use Rattle.records.specs.Records.{lent}
 use Rattle.protocol.specs.Call.{plain}
-use Rattle.protocol.specs.Check.{_⇐_, usable}
-use Rattle.rose.specs.Steps.{readVerdict}
-use Rattle.rose.proofs.UsableAnswers.{not-usable, usable-is}
+use Rattle.protocol.specs.Check.{shared}
+use Rattle.rose.specs.Steps.{both}
+use Rattle.rose.proofs.UsableAnswers.{usable-is}
 use Rattle.rose.proofs.Verdicts.{all, made, last}
 use borrow.Author.Needs.{needs}
 use Rattle.rose.proofs.usable.opening.Statement.{statement}
 use Rattle.rose.proofs.usable.opening.Tie as tie
 
+-- the state whose fields are lent
+abbrev lent-state : tie.Start → State
+lent-state c =
+    let b = c .args in
+    both (lent (b .own-count) (b .own-ids .now) (b .own-codes .now)) (lent (b .peer-count) (b .peer-ids .now) (b .peer-codes .now))
+
 returns : tie.Need-returns
-unfolding readVerdict
-returns c = rw (said-no (c .before .sound .ensures) (c .if1 .taken)) refl
-
-returns-2 : tie.Need-returns-2
-unfolding readVerdict
-returns-2 c =
-    let valid = c .before in let if1 = valid .before in let sound = if1 .before in let start = sound .before .before in
-    rw (said-yes (sound .sound .ensures) (if1 .if1 .left), not-usable (start .args .table .now) (start .args .state) (said-no (valid .valid .ensures) (c .if2 .taken))) refl
-
-returns-3 : tie.Need-returns-3
-returns-3 c =
-    let peer = c .before in let own = peer .before in let if2 = own .before .before .before in let valid = if2 .before in
-    let if1 = valid .before in let sound = if1 .before in let start = sound .before .before in
-    let T = start .args .table .now in let s = start .args .state in
-    rw (said-yes (sound .sound .ensures) (if1 .if1 .left))
-    (all {P = Unit {0}} plain ((1 ⇐ not (usable T s)) ∷ []) _ tt
-    (made (c .then .ensures) (λ _. rw (own .covers .ensures, peer .covers2 .ensures, usable-is T s (said-yes (valid .valid .ensures) (if2 .if2 .left))) refl)
-    last))
+returns c =
+    let nineteen = c .before in let valid = nineteen .before in let peer = valid .before in let own = peer .before in
+    let sound-peer = own .before in let sound-own = sound-peer .before in let start = sound-own .before .before in
+    let T = start .args .table .now in
+    all {P = Unit {0}} plain (shared T (lent-state start)) _ tt
+    (made (nineteen .then .ensures) (λ _. rw (sound-own .sound .ensures, sound-peer .sound2 .ensures) refl)
+    (made (c .then2 .ensures) (λ _. rw (valid .valid .ensures) (ap not (usable-is T (lent-state start) _ _ (own .covers .ensures) (peer .covers2 .ensures)))) last))
 
 pub opening-spec : {M : Type 1} → statement M
 opening-spec =
     tie.close
-    (tie.spec (λ c κs. search needs) returns (λ c κs. search needs) returns-2
-    (λ c κs. said-yes (c .before .before .before .valid .ensures) (c .before .before .if2 .left))
-    (λ c κs. said-yes (c .before .before .before .before .valid .ensures) (c .before .before .before .if2 .left)) (λ c κs. search needs)
-    returns-3)
+    (tie.spec (λ c κs. search needs) (λ c κs. search needs) (λ c κs. search needs) (λ c κs. search needs) (λ c κs. search needs)
+    (λ c κs. search needs) (λ c κs. search needs) returns)
