@@ -21,7 +21,7 @@ ghost use mathlib.Core.List.{List};
 ghost use Prim.Native.Nat.{ℕ};
 ghost use Rattle.records.specs.Records.{lent, view};
 ghost use Rattle.optable.specs.Validity.{valid};
-ghost use Rattle.optable.specs.Lookup.{operationOf, classOf, errorOf};
+ghost use Rattle.optable.specs.Lookup.{operationOf, errorOf};
 ghost use mathlib.Core.Bool.{true, not, _&&_};
 ghost use lib.Dec.{eqb};
 ghost use Rattle.apdu.specs.Reading.{readOwnLink, readPeerLink};

@@ -1,5 +1,4 @@
 -- The first `count` of a list are as many as the smaller of the two numbers.
-use borrow.Author.Needs.{needs}
 use native.Mathlib.Omega.{arith}
 use lib.ListN.{length-take}
 use Rattle.records.proofs.lent.live.Statement.{statement}

@@ -1,6 +1,5 @@
 -- By what was parsed.
 use Prim.Native.Nat.{ℕ}
-use mathlib.Core.Path.{refl}
 use mathlib.Core.List.{List}
 use Rattle.records.specs.declared.State.{State}
 use Rattle.records.specs.Records.{lent}

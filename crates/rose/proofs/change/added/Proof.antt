@@ -1,6 +1,5 @@
 -- Class 5 makes no record.
 use Rattle.rose.proofs.UsableAnswers.{no-record, one-record}
-use borrow.Author.Needs.{needs}
 use Rattle.rose.proofs.change.added.Statement.{statement}
 use Rattle.rose.proofs.change.added.Tie as tie
 
