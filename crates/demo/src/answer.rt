@@ -1,7 +1,6 @@
 // What an end reads: the library's indication or refusal, in words.
-use crate::text::number;
-use crate::text::octets;
-use crate::text::say;
+use crate::words::number;
+use crate::words::say;
 use apdu::Body;
 use apdu::Number;
 use apdu::Value;
@@ -9,6 +8,8 @@ use apdu::parse::octets_of;
 use protocol::Indication;
 use protocol::Reception;
 use protocol::Refusal;
+use text::out::octets;
+use text::out::problem_name;
 
 fn invocation_words(id: u32, operation: u32, name: &[u8], x: &[u8], value: Value) {
     number(b"invocation ", id);
@@ -21,7 +22,7 @@ fn invocation_words(id: u32, operation: u32, name: &[u8], x: &[u8], value: Value
         Value::At(span) => {
             say(b",");
             say(name);
-            octets(octets_of(x, span));
+            octets(1, octets_of(x, span));
         }
     }
 }
@@ -33,24 +34,15 @@ fn body_value(body: Body) -> Value {
     }
 }
 
-// The fields of a Reject, with the names of the two problems that occur here.
+// The fields of a Reject.
 fn reject_words(words: &[u8], id: Number, kind: u8, problem: u8) {
     say(words);
     match id {
         Number::Absent => say(b"no invocation"),
         Number::Of(n) => number(b"invocation ", n),
     }
-    match kind {
-        0x82 => number(b", result problem ", problem as u32),
-        0x83 => number(b", error problem ", problem as u32),
-        _ => number(b", problem ", problem as u32),
-    }
-    if kind == 0x82 && problem == 0 {
-        say(b", unrecognized invocation");
-    }
-    if kind == 0x83 && problem == 2 {
-        say(b", unrecognized error");
-    }
+    say(b", ");
+    problem_name(1, kind, problem);
 }
 
 fn indication_words(x: &[u8], said: Indication) {

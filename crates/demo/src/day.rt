@@ -1,7 +1,7 @@
 // The day's record that the kiosk keeps: its readings, and the points that have none.
-use crate::text::number;
-use crate::text::reading;
-use crate::text::say;
+use crate::words::number;
+use crate::words::reading;
+use crate::words::say;
 use apdu::Body;
 use apdu::Span;
 use apdu::parse::octets_of;

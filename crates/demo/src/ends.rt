@@ -4,9 +4,8 @@ use crate::answer::refusal_words;
 use crate::day::Day;
 use crate::day::FRESH;
 use crate::day::recorded;
-use crate::text::number;
-use crate::text::octets;
-use crate::text::say;
+use crate::words::number;
+use crate::words::say;
 use apdu::PeerLink;
 use apdu::Span;
 use apdu::parse::octets_of;
@@ -17,6 +16,7 @@ use records::Code;
 use records::OwnId;
 use records::PeerId;
 use records::State;
+use text::out::octets;
 
 // A table in document 01's layout, a line each: counts and offsets, operations, errors, error pairs.
 // Operation 7, reading: class 2, argument and result of type 02, result optional; error 1, below detection: no parameter.
@@ -71,7 +71,7 @@ fn sent(words: &[u8], before: Apdu, out: [u8; 32], written: usize) -> Apdu {
         end: written,
     };
     say(words);
-    octets(octets_of(&out, span));
+    octets(1, octets_of(&out, span));
     say(b"\n");
     Apdu { octets: out, span }
 }

@@ -2,7 +2,7 @@
 mod answer;
 mod day;
 mod ends;
-mod text;
+mod words;
 
 use day::close;
 use day::with_unknown;
@@ -14,7 +14,7 @@ use ends::forget;
 use ends::kiosk_reads;
 use ends::opened;
 use ends::result;
-use text::say;
+use words::say;
 
 // The three answers of a probe.
 fn three_answers(mut site: Site) -> Site {

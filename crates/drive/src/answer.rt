@@ -1,10 +1,4 @@
 // What a call answered: the front of its line.
-use crate::text::decimal;
-use crate::text::hex_all;
-use crate::text::hex2;
-use crate::text::hex8;
-use crate::text::put;
-use crate::text::words;
 use apdu::Body;
 use apdu::CodeField;
 use apdu::Number;
@@ -15,13 +9,19 @@ use protocol::Indication;
 use protocol::Outcome;
 use protocol::Reception;
 use protocol::Refusal;
+use text::decimal;
+use text::eight_digits;
+use text::octet;
+use text::octets;
+use text::put;
+use text::words;
 
 // The problem's kind and number behind an 18.
 fn problem_line(line: &mut [u8], at: usize, kind: u8, problem: u8) -> usize {
     let a = put(line, at, 32);
-    let b = hex2(line, a, kind);
+    let b = octet(line, a, kind);
     let c = put(line, b, 32);
-    hex2(line, c, problem)
+    octet(line, c, problem)
 }
 
 fn refusal_line(line: &mut [u8], why: Refusal) -> usize {
@@ -44,7 +44,7 @@ fn number_line(line: &mut [u8], at: usize, n: Number) -> usize {
 
 fn word_line(line: &mut [u8], at: usize, x: u32) -> usize {
     let a = put(line, at, 32);
-    hex8(line, a, x)
+    eight_digits(line, a, x)
 }
 
 fn link_line(line: &mut [u8], at: usize, linked: OwnLink) -> usize {
@@ -56,7 +56,7 @@ fn link_line(line: &mut [u8], at: usize, linked: OwnLink) -> usize {
 
 fn octets_line(line: &mut [u8], at: usize, v: &[u8]) -> usize {
     let a = put(line, at, 32);
-    hex_all(line, a, v)
+    octets(line, a, v)
 }
 
 fn value_line(line: &mut [u8], at: usize, x: &[u8], value: Value) -> usize {
@@ -107,6 +107,36 @@ fn result_line(line: &mut [u8], x: &[u8], id: u32, body: Body, operation: u32) -
     operation_line(line, c, operation)
 }
 
+fn invoke_line(
+    line: &mut [u8],
+    x: &[u8],
+    id: u32,
+    linked: OwnLink,
+    code: u32,
+    argument: Value,
+) -> usize {
+    let a = words(line, 0, b"invoke");
+    let b = word_line(line, a, id);
+    let c = link_line(line, b, linked);
+    let d = word_line(line, c, code);
+    value_line(line, d, x, argument)
+}
+
+fn error_line(
+    line: &mut [u8],
+    x: &[u8],
+    id: u32,
+    code: u32,
+    parameter: Value,
+    operation: u32,
+) -> usize {
+    let a = words(line, 0, b"error");
+    let b = word_line(line, a, id);
+    let c = word_line(line, b, code);
+    let d = value_line(line, c, x, parameter);
+    operation_line(line, d, operation)
+}
+
 fn indication_line(line: &mut [u8], x: &[u8], said: Indication) -> usize {
     match said {
         Indication::Invoke {
@@ -114,13 +144,7 @@ fn indication_line(line: &mut [u8], x: &[u8], said: Indication) -> usize {
             linked,
             code,
             argument,
-        } => {
-            let a = words(line, 0, b"invoke");
-            let b = word_line(line, a, id.0);
-            let c = link_line(line, b, linked);
-            let d = word_line(line, c, code.0);
-            value_line(line, d, x, argument)
-        }
+        } => invoke_line(line, x, id.0, linked, code.0, argument),
         Indication::Result {
             id,
             body,
@@ -131,13 +155,7 @@ fn indication_line(line: &mut [u8], x: &[u8], said: Indication) -> usize {
             code,
             parameter,
             operation,
-        } => {
-            let a = words(line, 0, b"error");
-            let b = word_line(line, a, id.0);
-            let c = word_line(line, b, code.0);
-            let d = value_line(line, c, x, parameter);
-            operation_line(line, d, operation.0)
-        }
+        } => error_line(line, x, id.0, code.0, parameter, operation.0),
         Indication::InvokeRejected { id, problem } => user_reject_line(line, id.0, 0x81, problem),
         Indication::ResultRejected { id, problem } => user_reject_line(line, id.0, 0x82, problem),
         Indication::ErrorRejected { id, problem } => user_reject_line(line, id.0, 0x83, problem),

@@ -1,9 +1,11 @@
 // The six calls of frames: each is made, once or so many times from the state as it was, and its line written.
 use crate::answer::outcome_line;
 use crate::answer::reception_line;
+use crate::arguments::Asked;
 use crate::ending::emit;
+use crate::ending::line_buffer;
 use crate::ending::value_of;
-use crate::text::fill;
+use crate::output::fill;
 use apdu::PeerLink;
 use apdu::Value;
 use protocol::Invocation;
@@ -13,12 +15,6 @@ use records::Code;
 use records::OwnId;
 use records::PeerId;
 use records::State;
-
-// What the arguments ask for: how often each call is made, and if a line ends with the value's place.
-pub(crate) struct Asked {
-    pub(crate) times: u64,
-    pub(crate) places: bool,
-}
 
 // The numbers before a frame's payload, as docs/DRIVE.md has them.
 pub(crate) struct Frame {
@@ -66,20 +62,14 @@ fn received(times: u64, state: State, table: &[u8], x: &[u8], out: &mut [u8]) ->
     }
 }
 
-fn receive(
-    asked: Asked,
-    state: State,
-    table: &[u8],
-    x: &[u8],
-    out: &mut [u8],
-    line: &mut [u8],
-) -> State {
+fn receive(asked: Asked, state: State, table: &[u8], x: &[u8], out: &mut [u8]) -> State {
+    let mut line = line_buffer();
     let r = received(asked.times, state, table, x, out);
     let reception = r.reception;
     let next = r.state;
-    let at = reception_line(line, x, reception);
+    let at = reception_line(&mut line, x, reception);
     let value = value_of(reception);
-    emit(line, at, next, out, r.written, asked.places, value);
+    emit(&mut line, at, next, out, r.written, asked.places, value);
     next
 }
 
@@ -120,6 +110,31 @@ fn requested(
     }
 }
 
+fn request_or_forget(
+    asked: Asked,
+    f: Frame,
+    state: State,
+    table: &[u8],
+    value: &[u8],
+    out: &mut [u8],
+) -> State {
+    let mut line = line_buffer();
+    let r = requested(asked.times, f, state, table, value, out);
+    let outcome = r.outcome;
+    let next = r.state;
+    let at = outcome_line(&mut line, f.kind == 7, outcome);
+    emit(
+        &mut line,
+        at,
+        next,
+        out,
+        r.written,
+        asked.places,
+        Value::Absent,
+    );
+    next
+}
+
 // A call, made so many times, and its line.
 pub(crate) fn call(
     asked: Asked,
@@ -128,16 +143,10 @@ pub(crate) fn call(
     table: &[u8],
     payload: &[u8],
     out: &mut [u8],
-    line: &mut [u8],
 ) -> State {
     fill(out);
     if f.kind == 2 {
-        return receive(asked, state, table, payload, out, line);
+        return receive(asked, state, table, payload, out);
     }
-    let r = requested(asked.times, f, state, table, payload, out);
-    let outcome = r.outcome;
-    let next = r.state;
-    let at = outcome_line(line, f.kind == 7, outcome);
-    emit(line, at, next, out, r.written, asked.places, Value::Absent);
-    next
+    request_or_forget(asked, f, state, table, payload, out)
 }

@@ -1,16 +1,20 @@
 // What stands behind the answer on a line: the state then, the lent output and, where asked, the value's place.
-use crate::text::decimal;
-use crate::text::hex_all;
-use crate::text::put;
-use crate::text::side_line;
-use crate::text::spoiled;
-use crate::text::words;
+ghost use mathlib.Core.Path.{_≡_};
+ghost use lib.ListN.{length};
+use crate::output::is_spoiled;
+use crate::side::side_line;
 use apdu::Body;
 use apdu::Span;
 use apdu::Value;
+use libc::STDOUT_FILENO;
 use protocol::Indication;
 use protocol::Reception;
 use records::State;
+use text::decimal;
+use text::octets;
+use text::print;
+use text::put;
+use text::words;
 
 fn state_line(line: &mut [u8], at: usize, state: State) -> usize {
     let a = words(line, at, b" own ");
@@ -27,7 +31,7 @@ fn state_line(line: &mut [u8], at: usize, state: State) -> usize {
 
 // Says if an octet behind what was written is no longer A5.
 fn behind_line(line: &mut [u8], at: usize, behind: &[u8]) -> usize {
-    if spoiled(behind) {
+    if is_spoiled(behind) {
         return words(line, at, b" spoiled");
     }
     at
@@ -40,7 +44,7 @@ fn output_line(line: &mut [u8], at: usize, lent: &[u8], written: usize) -> usize
         return behind_line(line, b, lent);
     }
     if written <= lent.len() {
-        let b = hex_all(line, a, &lent[0..written]);
+        let b = octets(line, a, &lent[0..written]);
         return behind_line(line, b, &lent[written..]);
     }
     a
@@ -89,6 +93,13 @@ fn place_line(line: &mut [u8], at: usize, is_placed: bool, value: Value) -> usiz
     }
 }
 
+// More octets than a line has: those of a value and of what is written, in hexadecimal, and the places of both sides.
+pub(crate) fn line_buffer() -> [u8; 300000]
+    ensures { λ r. ⌜ 300000 ≡ length r ⌝ }
+{
+    [0; 300000]
+}
+
 // Ends the line of a call whose answer stands before `at`, and writes it to standard output.
 pub(crate) fn emit(
     line: &mut [u8],
@@ -103,7 +114,5 @@ pub(crate) fn emit(
     let b = output_line(line, a, lent, written);
     let c = place_line(line, b, is_placed, value);
     let n = put(line, c, 10);
-    if n <= line.len() {
-        io::write_all(1, &line[0..n]);
-    }
+    print(STDOUT_FILENO, line, n);
 }

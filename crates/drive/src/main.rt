@@ -1,59 +1,40 @@
 // One end of an association, driven by a script of frames on standard input: a line on standard output for each call.
-// A number as argument says how often each call is made, from the state as it was, so that calls can be measured.
-// The word `places` as argument has each line end with the value's place in the received octets.
+// The arguments and the complaints are those of docs/DRIVE.md.
 mod answer;
+mod arguments;
 mod calls;
+mod complaint;
 mod ending;
-mod text;
+mod number;
+mod output;
+mod script;
+mod side;
 
-use calls::Asked;
+use arguments::Asked;
+use arguments::arguments;
 use calls::Frame;
 use calls::call;
+use complaint::argument_refused;
+use complaint::cut_short;
+use complaint::other_kind;
 use records::State;
-use text::decimal_of;
-use text::pair;
-use text::same;
-use text::side_image;
-use text::word;
+use script::Decoded;
+use script::Header;
+use script::Source;
+use script::behind;
+use script::has_filled;
+use script::next_header;
+use script::read_text;
+use side::side_image;
 use text::words;
 
 // What is kept from frame to frame.
 struct Session {
     more: bool,
     asked: Asked,
+    source: Source,
     table_len: usize,
     state: State,
-}
-
-// The next frame's header, or none at the end of the input.
-enum Header {
-    Frame(Frame),
-    End,
-}
-
-fn next_header() -> Header {
-    let mut head = [0u8; 18];
-    let got = io::read_full(0, &mut head);
-    if got != 18 {
-        return Header::End;
-    }
-    Header::Frame(Frame {
-        kind: head[0],
-        flag: head[1],
-        room: pair(head[2], head[3]),
-        id: word(&head, 4),
-        code: word(&head, 8),
-        linked: word(&head, 12),
-        size: pair(head[16], head[17]),
-    })
-}
-
-// Reads exactly n octets to the start of a buffer.
-fn filled(buf: &mut [u8], n: usize) -> bool {
-    if n <= buf.len() {
-        return io::read_full(0, &mut buf[0..n]) == n;
-    }
-    false
 }
 
 fn ended(mut s: Session) -> Session {
@@ -73,22 +54,16 @@ fn imaged(payload: &[u8], mut s: Session) -> Session {
     s
 }
 
-// A call, if the table and the room fit their buffers.
-fn called(
-    f: Frame,
-    table: &[u8],
-    payload: &[u8],
-    out: &mut [u8],
-    line: &mut [u8],
-    mut s: Session,
-) -> Session {
+// A call, if the table fits its buffer; the output that is lent is as large as the frame says.
+fn called(f: Frame, table: &[u8], payload: &[u8], mut s: Session) -> Session {
+    let mut out = io::large_buffer();
     let room = f.room;
     let asked = s.asked;
     let table_len = s.table_len;
     if table_len <= table.len() {
-        if room <= out.len() {
+        if room <= 65536 {
             let lent = &table[0..table_len];
-            let state = call(asked, f, s.state, lent, payload, &mut out[0..room], line);
+            let state = call(asked, f, s.state, lent, payload, &mut out[0..room]);
             s.state = state;
             return s;
         }
@@ -97,14 +72,7 @@ fn called(
 }
 
 // A frame whose payload was read.
-fn act(
-    f: Frame,
-    table: &mut [u8],
-    payload: &[u8],
-    out: &mut [u8],
-    line: &mut [u8],
-    mut s: Session,
-) -> Session {
+fn act(f: Frame, table: &mut [u8], payload: &[u8], mut s: Session) -> Session {
     let kind = f.kind;
     if kind == 0 {
         s.table_len = words(table, 0, payload);
@@ -113,80 +81,100 @@ fn act(
     if kind == 1 {
         return imaged(payload, s);
     }
-    if 7 < kind {
-        return ended(s);
-    }
-    called(f, table, payload, out, line, s)
+    called(f, table, payload, s)
 }
 
-fn turn(
+fn ended_within(number: u64, s: Session) -> Session {
+    cut_short(number);
+    ended(s)
+}
+
+// A frame whose header was read: a kind that there is not ends the run.
+fn frame(
+    number: u64,
+    f: Frame,
+    script: &[u8],
     table: &mut [u8],
     payload: &mut [u8],
-    out: &mut [u8],
-    line: &mut [u8],
-    s: Session,
+    mut s: Session,
 ) -> Session {
-    let h = next_header();
+    if 7 < f.kind {
+        other_kind(number, f.kind);
+        return ended(s);
+    }
+    let n = f.size;
+    let source = behind(s.source, script, 18);
+    if !has_filled(source, script, payload, n) {
+        return ended_within(number, s);
+    }
+    let next = behind(source, script, n);
+    s.source = next;
+    if n <= payload.len() {
+        return act(f, table, &payload[0..n], s);
+    }
+    ended(s)
+}
+
+fn turn(number: u64, script: &[u8], table: &mut [u8], payload: &mut [u8], s: Session) -> Session {
+    let source = s.source;
+    let h = next_header(source, script);
     match h {
         Header::End => ended(s),
-        Header::Frame(f) => {
-            let n = f.size;
-            if !filled(payload, n) {
-                return ended(s);
-            }
-            if n <= payload.len() {
-                return act(f, table, &payload[0..n], out, line, s);
-            }
-            ended(s)
-        }
+        Header::Cut => ended_within(number, s),
+        Header::Frame(f) => frame(number, f, script, table, payload, s),
     }
 }
 
 // A proved loop has to end, so it counts its turns down, from a number that no run uses up.
-fn run(asked: Asked, table: &mut [u8], payload: &mut [u8], out: &mut [u8], line: &mut [u8]) {
+fn run(asked: Asked, script: &[u8], table: &mut [u8], payload: &mut [u8]) {
     let mut s = Session {
         more: true,
         asked,
+        source: Source {
+            hex: asked.hex,
+            at: 0,
+        },
         table_len: 0,
         state: State::fresh(),
     };
     let mut turns = u64::MAX;
     while turns > 0 && s.more {
-        s = turn(table, payload, out, line, s);
+        let number = u64::MAX - turns + 1;
+        s = turn(number, script, table, payload, s);
         turns -= 1;
     }
 }
 
-fn with_argument(mut asked: Asked, i: usize) -> Asked {
-    let mut text = io::buffer();
-    let n = os::arg(i, &mut text);
-    if same(&text[..n], b"places") {
-        asked.places = true;
-        return asked;
-    }
-    asked.times = decimal_of(&text[..n]);
-    asked
+fn played(asked: Asked, script: &[u8]) {
+    let mut table = io::large_buffer();
+    let mut payload = io::large_buffer();
+    run(asked, script, &mut table, &mut payload);
 }
 
-// Without a number each call is made once.
-fn arguments() -> Asked {
-    let mut asked = Asked {
-        times: 1,
-        places: false,
-    };
-    let count = os::arg_count();
-    let mut i: usize = 1;
-    while i < count {
-        asked = with_argument(asked, i);
-        i += 1;
+// A script in hexadecimal text: nothing is run where the text is wrong.
+fn text_played(asked: Asked) {
+    let mut script = [0u8; 32768];
+    match read_text(&mut script) {
+        Decoded::Wrong => {}
+        Decoded::Octets(n) => {
+            if n <= script.len() {
+                played(asked, &script[0..n]);
+            }
+        }
     }
-    asked
 }
 
 fn main() {
-    let mut table = io::large_buffer();
-    let mut payload = io::large_buffer();
-    let mut out = io::large_buffer();
-    let mut line = [0u8; 300000];
-    run(arguments(), &mut table, &mut payload, &mut out, &mut line);
+    let asked = arguments();
+    let refused = asked.refused;
+    if refused != 0 {
+        argument_refused(refused);
+        return;
+    }
+    if asked.hex {
+        text_played(asked);
+        return;
+    }
+    let none = [0u8; 0];
+    played(asked, &none);
 }

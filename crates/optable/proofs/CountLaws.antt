@@ -2,13 +2,14 @@
 use Prim.Native.Nat.{ℕ, zero, suc, _+_, _-_, _≤_, _<_}
 use native.Mathlib.Numerals.{add-one}
 use native.Mathlib.Omega.{arith}
-use mathlib.Core.Path.{_≡_, refl, ap, _∙_}
+use mathlib.Core.Path.{_≡_, refl, sym, ap, _∙_}
 use mathlib.Core.Logic.{_⊎_, inl, inr}
-use mathlib.Core.Bool.{Bool, true, false, cond, _&&_, _||_, false≢true}
-use borrow.Author.Tests.{ltb-true, ltb-false, eqb-true, eqb-false}
+use mathlib.Core.Bool.{Bool, true, false, not, cond, _&&_, _||_, false≢true}
+use borrow.Author.Tests.{ltb-true, ltb-false, eqb-true, eqb-false, not-true, not-false}
 use lib.Dec.{eqb, ltb}
 use Rattle.base.proofs.Tests.{and-true, and-left, and-right, and-false-left, and-false-right, or-false, or-true-left, or-true-right, or-cases}
 use Rattle.optable.specs.Count.{every, any, seek}
+use Rattle.optable.specs.declared.Place.{Place}
 use Rattle.optable.specs.declared.Place.the-variants.{At, Nowhere}
 
 below-or-last : (i n : ℕ) → i < suc n → (i < n) ⊎ (i ≡ n)
@@ -126,3 +127,11 @@ module _ (P : ℕ → Bool) where
       go true f g c h ih = let z : _≡_ {A = ℕ} 0 1 = cc in absurd (omega arith)
       go false f g true h ih = rw (eqb-true i j h) at f
       go false f g false h ih = let s = eqb-false i j h in ih g (omega (arith, s))
+
+-- an answer by the first that fails is good just where none does
+pub seek-every : {A : Type 0} (P : ℕ → Bool) (n : ℕ) (good : A → Bool) (answer : Place → A) → ((i : ℕ) → good (answer (At i)) ≡ false) → good (answer Nowhere) ≡ true → good (answer (seek (λ i. not (P i)) n 0)) ≡ every P n
+seek-every {A} P n good answer a b = go (seek (λ i. not (P i)) n 0) refl
+  where
+    go : (p : Place) → seek (λ i. not (P i)) n 0 ≡ p → good (answer p) ≡ every P n
+    go (At j) e = let w = seek-facts (λ i. not (P i)) n 0 j e in a j ∙ sym (every-broken P n j (omega arith) (not-true _ (w .1)))
+    go Nowhere e = b ∙ sym (every-all P n (λ i p. not-false _ (seek-nowhere (λ j. not (P j)) n 0 i e (omega arith) (omega arith))))

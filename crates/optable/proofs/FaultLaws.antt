@@ -4,59 +4,112 @@ use native.Mathlib.Omega.{arith}
 use mathlib.Core.Path.{_≡_, refl, sym, ap, _∙_}
 use mathlib.Core.Bool.{Bool, true, false, not, cond, _&&_}
 use mathlib.Core.List.{List}
-use borrow.Author.Tests.{not-true, not-false}
-use Rattle.base.proofs.Tests.{cond-true, cond-false}
+use lib.ListN.{length}
+use lib.Dec.{eqb, leb, ltb}
+use borrow.Author.Tests.{leb-false}
+use Rattle.base.proofs.Tests.{cond-elim, cond-true, cond-false, test-right, last-right, both-right}
 use Rattle.optable.specs.declared.Part.{Part}
 use Rattle.optable.specs.declared.Part.the-variants.{Operations, Errors, ErrorPairs, ChildPairs}
-use Rattle.optable.specs.declared.Place.{Place}
-use Rattle.optable.specs.declared.Place.the-variants.{At, Nowhere}
+use Rattle.optable.specs.declared.Rule.{Rule}
+use Rattle.optable.specs.declared.Breach.{Breach}
+use Rattle.optable.specs.declared.Breach.the-variants.{Unbroken, Class, Flags, ArgumentFlag, ArgumentType, ResultFlag, ResultType, ResultUnexpected, ParameterFlag, ParameterType, FirstIndex, SecondIndex, PairClass, Order}
 use Rattle.optable.specs.declared.Fault.{Fault}
-use Rattle.optable.specs.declared.Fault.the-variants.{Layout, Count}
+use Rattle.optable.specs.declared.Fault.the-variants.{Nothing, Header, Offset, Length, Count, Entry}
 use Rattle.optable.specs.Count.{every, seek}
-use Rattle.optable.specs.Read.{count}
-use Rattle.optable.specs.Validity.{withinLimit, laidOut, entryRight, partRight, valid}
-use Rattle.optable.specs.Fault.{nothing, firstWrong, entryFault, partFault, firstOf, firstFault}
-use Rattle.optable.proofs.CountLaws.{every-broken, every-all, seek-found, seek-passed, seek-ended, seek-facts, seek-nowhere}
+use Rattle.optable.specs.Read.{count, start, classAt, flagsAt, argumentAt, resultAt, flagAt, parameterAt, firstAt, secondAt, secondPart}
+use Rattle.optable.specs.Validity.{withinLimit, behind, laidOut, ruleRight, resultRight, operationRight, errorRight, allowed, pairRight, fieldsRight, rises, entryRight, partRight, valid}
+use Rattle.optable.specs.Fault.{unbroken, needs, ruleBreach, operationBreach, errorBreach, pairBreach, fieldsBreach, entryBreach, firstWrong, entryFault, partFault, layoutFault, nothing, firstOf, firstFault}
+use Rattle.optable.proofs.LayoutLaws.{header-missing}
+use Rattle.optable.proofs.CountLaws.{seek-found, seek-passed, seek-ended, seek-every}
+
+-- ---- no breach, and right
+
+rule-broken : (r : Rule) (f k : Breach) → unbroken f ≡ false → unbroken k ≡ false → unbroken (ruleBreach r f k) ≡ false
+rule-broken r f k e g = cond-elim (λ (b : Breach). unbroken b ≡ false) (eqb (r .identifier) 0) f k (λ _. e) (λ _. g)
+
+operation-right : (c f : ℕ) (a r : Rule) → unbroken (operationBreach c f a r) ≡ operationRight c f a r
+unfolding operationBreach operationRight
+operation-right c f a r =
+    test-right unbroken (leb 1 c) Class refl
+    (test-right unbroken (leb c 5) Class refl
+    (test-right unbroken (leb f 3) Flags refl
+    (test-right unbroken (ruleRight a) _ (rule-broken a ArgumentFlag ArgumentType refl refl)
+    (test-right unbroken (ruleRight r) _ (rule-broken r ResultFlag ResultType refl refl)
+    (last-right unbroken (resultRight c r) ResultUnexpected Unbroken refl refl)))))
+
+error-right : (f : ℕ) (r : Rule) → unbroken (errorBreach f r) ≡ errorRight f r
+unfolding errorBreach errorRight
+error-right f r =
+    test-right unbroken (leb f 1) Flags refl
+    (last-right unbroken (ruleRight r) _ Unbroken (rule-broken r ParameterFlag ParameterType refl refl) refl)
+
+module _ (t : List ℕ) where
+  pair-right : (k : Part) (i : ℕ) → unbroken (pairBreach t k i) ≡ pairRight t k i
+  unfolding pairBreach pairRight
+  pair-right k i =
+      test-right unbroken (ltb (firstAt t k i) (count t Operations)) FirstIndex refl
+      (test-right unbroken (ltb (secondAt t k i) (count t (secondPart k))) SecondIndex refl
+      (last-right unbroken (allowed k (classAt t (firstAt t k i))) PairClass Unbroken refl refl))
+
+  fields-right : (k : Part) (i : ℕ) → unbroken (fieldsBreach t k i) ≡ fieldsRight t k i
+  unfolding fieldsBreach fieldsRight
+  fields-right Operations i = operation-right (classAt t i) (flagsAt t i) (argumentAt t i) (resultAt t i)
+  fields-right Errors i = error-right (flagAt t i) (parameterAt t i)
+  fields-right ErrorPairs i = pair-right ErrorPairs i
+  fields-right ChildPairs i = pair-right ChildPairs i
+
+  pub fields-told : (k : Part) (i : ℕ) {b : Breach} {x : Bool} → b ≡ fieldsBreach t k i → x ≡ unbroken b → x ≡ fieldsRight t k i
+  fields-told k i {b} {x} e f = f ∙ ap unbroken e ∙ fields-right k i
+
+  entry-right : (k : Part) (i : ℕ) → unbroken (entryBreach t k i) ≡ entryRight t k i
+  unfolding entryBreach entryRight
+  entry-right k i = go (fieldsRight t k i) refl
+    where
+      go : (b : Bool) → fieldsRight t k i ≡ b → unbroken (needs b (fieldsBreach t k i) (needs (rises t k i) Order Unbroken)) ≡ (b && rises t k i)
+      go true e = last-right unbroken (rises t k i) Order Unbroken refl refl
+      go false e = fields-right k i ∙ e
 
 -- ---- no fault, and valid
 
 module _ (t : List ℕ) (k : Part) where
-  entries-right : nothing (entryFault k (firstWrong t k)) ≡ every (entryRight t k) (count t k)
-  unfolding firstWrong
-  entries-right = go (firstWrong t k) refl
-    where
-      n : ℕ
-      n = count t k
-
-      go : (p : Place) → firstWrong t k ≡ p → nothing (entryFault k p) ≡ every (entryRight t k) n
-      go (At j) e = let w = seek-facts (λ i. not (entryRight t k i)) n 0 j e in sym (every-broken (entryRight t k) n j (omega arith) (not-true _ (w .1)))
-      go Nowhere e = sym (every-all (entryRight t k) n (λ i p. not-false _ (seek-nowhere (λ j. not (entryRight t k j)) n 0 i e (omega arith) (omega arith))))
+  entries-right : nothing (entryFault t k (firstWrong t k)) ≡ every (entryRight t k) (count t k)
+  unfolding firstWrong entryFault
+  entries-right = seek-every (entryRight t k) (count t k) nothing (entryFault t k) (λ i. refl) refl
 
   part-right : nothing (partFault t k) ≡ partRight t k
   unfolding partFault partRight
   part-right = go (withinLimit t k)
     where
-      go : (b : Bool) → nothing (cond b (entryFault k (firstWrong t k)) (Count k)) ≡ (b && every (entryRight t k) (count t k))
+      go : (b : Bool) → nothing (cond b (entryFault t k (firstWrong t k)) (Count k)) ≡ (b && every (entryRight t k) (count t k))
       go true = entries-right
       go false = refl
 
-both-nothing : (a b : Fault) → nothing (firstOf a b) ≡ (nothing a && nothing b)
-both-nothing a b = go (nothing a) refl
+-- a table that is laid out has its header
+header-first : (t : List ℕ) → (leb 16 (length t) && laidOut t) ≡ laidOut t
+header-first t = go (leb 16 (length t)) refl
   where
-    go : (c : Bool) → nothing a ≡ c → nothing (cond c b a) ≡ (c && nothing b)
+    go : (b : Bool) → leb 16 (length t) ≡ b → (b && laidOut t) ≡ laidOut t
     go true e = refl
-    go false e = e
+    go false e = header-missing t (leb-false 16 (length t) e)
 
-four-nothing : (a b c d : Fault) → nothing (firstOf a (firstOf b (firstOf c d))) ≡ (nothing a && (nothing b && (nothing c && nothing d)))
-four-nothing a b c d = rw (both-nothing a (firstOf b (firstOf c d)), both-nothing b (firstOf c d), both-nothing c d) refl
+pub layout-right : (t : List ℕ) → nothing (layoutFault t) ≡ laidOut t
+unfolding layoutFault laidOut
+layout-right t =
+    test-right nothing (leb 16 (length t)) Header refl
+    (test-right nothing (eqb (start t Operations) 16) (Offset Operations) refl
+    (test-right nothing (eqb (start t Errors) (behind t Operations)) (Offset Errors) refl
+    (test-right nothing (eqb (start t ErrorPairs) (behind t Errors)) (Offset ErrorPairs) refl
+    (test-right nothing (eqb (start t ChildPairs) (behind t ErrorPairs)) (Offset ChildPairs) refl
+    (last-right nothing (eqb (length t) (behind t ChildPairs)) Length Nothing refl refl)))))
+    ∙ header-first t
 
 pub faultless-is-valid : (t : List ℕ) → nothing (firstFault t) ≡ valid t
 unfolding firstFault valid
-faultless-is-valid t = go (laidOut t)
-  where
-    go : (l : Bool) → nothing (cond l (firstOf (partFault t Operations) (firstOf (partFault t Errors) (firstOf (partFault t ErrorPairs) (partFault t ChildPairs)))) Layout) ≡ (l && (partRight t Operations && (partRight t Errors && (partRight t ErrorPairs && partRight t ChildPairs))))
-    go true = four-nothing (partFault t Operations) (partFault t Errors) (partFault t ErrorPairs) (partFault t ChildPairs) ∙ rw (part-right t Operations, part-right t Errors, part-right t ErrorPairs, part-right t ChildPairs) refl
-    go false = refl
+faultless-is-valid t =
+    let p = partFault t ErrorPairs in let c = partFault t ChildPairs in let e = partFault t Errors in let o = partFault t Operations in
+    both-right nothing (layoutFault t) (firstOf o (firstOf e (firstOf p c))) (layout-right t)
+    (both-right nothing o (firstOf e (firstOf p c)) (part-right t Operations)
+    (both-right nothing e (firstOf p c) (part-right t Errors) (both-right nothing p c (part-right t ErrorPairs) (part-right t ChildPairs))))
 
 -- ---- the search for a part's first wrong entry
 
@@ -71,14 +124,20 @@ module _ (t : List ℕ) (k : Part) where
       rw z
 
   module _ (n i : ℕ) (e : firstWrong t k ≡ seek (λ i. not (entryRight t k i)) (n - i) i) where
-    pub wrong-found : i < n → entryRight t k i ≡ false → At i ≡ firstWrong t k
-    wrong-found p h = seek-found wrong n i p (rw h) ∙ sym e
+    pub wrong-found : {b : Breach} → i < n → b ≡ entryBreach t k i → unbroken b ≡ false → Entry k i b ≡ entryFault t k (firstWrong t k)
+    unfolding entryFault
+    wrong-found {b} p f g =
+        let h : entryRight t k i ≡ false = sym (entry-right t k i) ∙ ap unbroken (sym f) ∙ g in
+        ap (Entry k i) f ∙ ap (entryFault t k) (seek-found wrong n i p (rw h) ∙ sym e)
 
-    pub right-passed : i < n → entryRight t k i ≡ true → firstWrong t k ≡ seek (λ i. not (entryRight t k i)) (n - (i + 1)) (i + 1)
-    right-passed p h = e ∙ seek-passed wrong n i p (rw h)
+    pub right-passed : {b : Breach} → i < n → b ≡ entryBreach t k i → unbroken b ≡ true → firstWrong t k ≡ seek (λ i. not (entryRight t k i)) (n - (i + 1)) (i + 1)
+    right-passed {b} p f g =
+        let h : entryRight t k i ≡ true = sym (entry-right t k i) ∙ ap unbroken (sym f) ∙ g in
+        e ∙ seek-passed wrong n i p (rw h)
 
-    pub walk-ended : n ≤ i → Nowhere ≡ firstWrong t k
-    walk-ended p = seek-ended wrong n i p ∙ sym e
+    pub walk-ended : n ≤ i → Nothing ≡ entryFault t k (firstWrong t k)
+    unfolding entryFault
+    walk-ended p = ap (entryFault t k) (seek-ended wrong n i p ∙ sym e)
 
   -- ---- a part, and the whole
 
@@ -86,21 +145,9 @@ module _ (t : List ℕ) (k : Part) where
   unfolding partFault
   part-too-long e = cond-false _ _ e
 
-  pub entry-decides : {p : Place} (x : Place) → withinLimit t k ≡ true → p ≡ firstWrong t k → p ≡ x → entryFault k x ≡ partFault t k
+  pub entry-decides : {f : Fault} → withinLimit t k ≡ true → f ≡ entryFault t k (firstWrong t k) → f ≡ partFault t k
   unfolding partFault
-  entry-decides {p} x e f g = ap (entryFault k) (sym g ∙ f) ∙ cond-true _ _ e
+  entry-decides {f} e g = g ∙ cond-true _ _ e
 
-pub first-of-two : {a x : Fault} (y : Fault) → a ≡ x → nothing a ≡ false → a ≡ firstOf x y
-first-of-two {a} {x} y e f = e ∙ cond-false _ _ (ap nothing (sym e) ∙ f)
-
-pub second-of-two : {a b x y : Fault} → a ≡ x → nothing a ≡ true → b ≡ y → b ≡ firstOf x y
-second-of-two {a} {b} {x} {y} e f g = g ∙ cond-true _ _ (ap nothing (sym e) ∙ f)
-
-module _ (t : List ℕ) where
-  pub layout-wrong : laidOut t ≡ false → Layout ≡ firstFault t
-  unfolding firstFault
-  layout-wrong e = cond-false _ _ e
-
-  pub parts-decide : {a : Fault} → laidOut t ≡ true → a ≡ firstOf (partFault t Operations) (firstOf (partFault t Errors) (firstOf (partFault t ErrorPairs) (partFault t ChildPairs))) → a ≡ firstFault t
-  unfolding firstFault
-  parts-decide {a} e f = f ∙ cond-true _ _ e
+pub laid-out-told : (t : List ℕ) {f : Fault} → f ≡ layoutFault t → nothing f ≡ true → laidOut t ≡ true
+laid-out-told t {f} e g = sym (layout-right t) ∙ ap nothing (sym e) ∙ g

@@ -7,6 +7,8 @@ mod WalkLaws
 mod FaultLaws
 mod ReadAnswers
 mod ValidityAnswers
+mod ExtensionAnswers
+mod ExtensionLaws
 mod LookupAnswers
 mod PairAnswers
 mod ValueAnswers

@@ -13,7 +13,7 @@ use Rattle.optable.specs.declared.Part.the-variants.{Operations, Errors,
 use Rattle.optable.specs.declared.Operation.{Operation}
 use Rattle.optable.specs.declared.Error.{Error}
 use Rattle.optable.specs.Read.{count, hasCode, operationAt, errorAt, classAt, firstAt, secondAt, secondPart}
-use Rattle.optable.specs.Validity.{limitOf, withinLimit, laidOut, coded, rises, indexed, allowed, pairRight, fieldsRight, entryRight, partRight, valid}
+use Rattle.optable.specs.Validity.{limitOf, withinLimit, laidOut, coded, rises, allowed, pairRight, fieldsRight, entryRight, partRight, valid}
 use Rattle.optable.specs.Lookup.{operationIn, operationOf, errorIn, errorOf, listed, classOf, known, joins, joined, paired, childOf, parentAt, hasChild, ordered, CodeAnswer}
 use Rattle.optable.proofs.CountLaws.{every-at, every-all, any-here, any-where}
 use Rattle.optable.proofs.ListLaws.{has-code-is, codes-distinct, find-is}
@@ -91,19 +91,19 @@ module _ (t : List ℕ) (v : valid t ≡ true) where
   valid-pair ChildPairs w i p = valid-fields ChildPairs i p
 
   module _ (k : Part) (w : coded k ≡ false) (i : ℕ) (p : i < count t k) where
-    pair-indexed : (ltb (firstAt t k i) (count t Operations) && ltb (secondAt t k i) (count t (secondPart k))) ≡ true
-    unfolding pairRight indexed
-    pair-indexed = and-left (indexed t k i) _ (valid-pair k w i p)
-
     pub pair-first : firstAt t k i < count t Operations
-    pair-first = ltb-true _ _ (and-left (ltb (firstAt t k i) (count t Operations)) _ pair-indexed)
+    unfolding pairRight
+    pair-first = ltb-true _ _ (and-left (ltb (firstAt t k i) (count t Operations)) _ (valid-pair k w i p))
+
+    behind-first : (ltb (secondAt t k i) (count t (secondPart k)) && allowed k (classAt t (firstAt t k i))) ≡ true
+    unfolding pairRight
+    behind-first = and-right (ltb (firstAt t k i) (count t Operations)) _ (valid-pair k w i p)
 
     pub pair-second : secondAt t k i < count t (secondPart k)
-    pair-second = ltb-true _ _ (and-right (ltb (firstAt t k i) (count t Operations)) _ pair-indexed)
+    pair-second = ltb-true _ _ (and-left (ltb (secondAt t k i) (count t (secondPart k))) _ behind-first)
 
     pub pair-allowed : allowed k (classAt t (firstAt t k i)) ≡ true
-    unfolding pairRight
-    pair-allowed = and-right (indexed t k i) _ (valid-pair k w i p)
+    pair-allowed = and-right (ltb (secondAt t k i) (count t (secondPart k))) _ behind-first
 
     -- the operation that a pair names is listed, with a class that the pair allows
     pair-operation : (c : Code) → hasCode t Operations c (firstAt t k i) ≡ true → (listed (operationOf t c) ≡ true) × (allowed k (classOf (operationOf t c)) ≡ true)

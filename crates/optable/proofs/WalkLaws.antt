@@ -9,13 +9,15 @@ use lib.ListN.{length, getD}
 use lib.Dec.{eqb, ltb}
 use Rattle.optable.specs.declared.Part.{Part}
 use Rattle.optable.specs.declared.Part.the-variants.{Operations, Errors, ErrorPairs, ChildPairs}
+use Rattle.optable.specs.declared.Breach.{Breach}
 use Rattle.optable.specs.declared.entry.Reached.{Reached}
-use Rattle.optable.specs.Read.{u16, u32, sizeOf, count, start, entryStart, octetAt, codeAt, firstAt, secondAt, below}
-use Rattle.optable.specs.Validity.{laidOut, ruleRight, operationRight, pairRight, coded, pairBelow, above, fieldsRight}
+use Rattle.optable.specs.Read.{u16, u32, sizeOf, count, start, entryStart, octetAt, codeAt, classAt, firstAt, secondAt, below}
+use Rattle.optable.specs.Validity.{laidOut, allowed, coded, pairBelow, above}
+use Rattle.optable.specs.Fault.{operationBreach, errorBreach, pairBreach, fieldsBreach}
 use Rattle.optable.specs.Steps.{Stands}
 use Rattle.optable.proofs.LayoutLaws.{next-entry, entry-near, entry-starts-rise, entry-inside}
 use Rattle.optable.proofs.OrderLaws.{same-order}
-use Rattle.optable.proofs.ValidityAnswers.{first-below, first-above, first-same, above-by-code, above-by-pair, error-rule-decides}
+use Rattle.optable.proofs.ValidityAnswers.{first-below, first-above, first-same, above-by-code, above-by-pair}
 
 -- ---- where it stands
 
@@ -75,6 +77,10 @@ module _ {t : List ℕ} {k : Part} {e : Reached} (w : Stands t k e) where
   unfolding secondAt
   second-read {n} p = p ∙ ap (λ (x : ℕ). u16 t (x + 2)) (w .here)
 
+  -- the class read of the pair's operation is the one that decides
+  pub class-told : {m n : ℕ} {x : Bool} → m ≡ u16 t (e .at) → n ≡ octetAt t Operations m 4 → x ≡ allowed k n → x ≡ allowed k (classAt t (firstAt t k (e .index)))
+  class-told {m} {n} {x} p q g = g ∙ ap (allowed k) (q ∙ ap (classAt t) (first-read p))
+
   pub here-inside : e .at + 4 ≤ length t
   here-inside = omega (arith, w .inside, four-at-least k)
 
@@ -101,18 +107,17 @@ pub stands-as : {t : List ℕ} {k l : Part} {e : Reached} → k ≡ l → Stands
 stands-as {t} {k} {l} {e} q w = subst (λ (x : Part). Stands t x e) q w
 
 module _ (t : List ℕ) (i : ℕ) where
-  pub operation-read : {c f a r : ℕ} {b : Bool} → c ≡ octetAt t Operations i 4 → f ≡ octetAt t Operations i 7 → a ≡ octetAt t Operations i 5 → r ≡ octetAt t Operations i 6
-      → b ≡ operationRight c f (record { identifier = a; optional = eqb (f % 2) 1 }) (record { identifier = r; optional = eqb (f / 2 % 2) 1 }) → b ≡ fieldsRight t Operations i
-  unfolding fieldsRight
+  pub operation-read : {c f a r : ℕ} {b : Breach} → c ≡ octetAt t Operations i 4 → f ≡ octetAt t Operations i 7 → a ≡ octetAt t Operations i 5 → r ≡ octetAt t Operations i 6
+      → b ≡ operationBreach c f (record { identifier = a; optional = eqb (f % 2) 1 }) (record { identifier = r; optional = eqb (f / 2 % 2) 1 }) → b ≡ fieldsBreach t Operations i
+  unfolding fieldsBreach
   operation-read {c} {f} {a} {r} {b} p q u v g = rw (p, u, v, q) at g
 
-  pub error-read : {a f : ℕ} {b : Bool} → a ≡ octetAt t Errors i 4 → f ≡ octetAt t Errors i 5 → f ≤ 1 → b ≡ ruleRight (record { identifier = a; optional = eqb (f % 2) 1 }) → b ≡ fieldsRight t Errors i
-  error-read {a} {f} {b} p q h g =
-      let g′ : b ≡ ruleRight (record { identifier = octetAt t Errors i 4; optional = eqb (octetAt t Errors i 5 % 2) 1 }) = rw (p, q) at g in
-      error-rule-decides t i (omega arith) g′
+  pub error-read : {a f : ℕ} {b : Breach} → a ≡ octetAt t Errors i 4 → f ≡ octetAt t Errors i 5 → b ≡ errorBreach f (record { identifier = a; optional = eqb (f % 2) 1 }) → b ≡ fieldsBreach t Errors i
+  unfolding fieldsBreach
+  error-read {a} {f} {b} p q g = rw (p, q) at g
 
-  pub pair-fields : (k l : Part) → k ≡ l → coded l ≡ false → pairRight t k i ≡ fieldsRight t k i
-  unfolding fieldsRight
+  pub pair-fields : (k l : Part) → k ≡ l → coded l ≡ false → pairBreach t k i ≡ fieldsBreach t k i
+  unfolding fieldsBreach
   pair-fields k Operations e w = absurd (true≢false w)
   pair-fields k Errors e w = absurd (true≢false w)
   pair-fields k ErrorPairs e w = rw e refl

@@ -4,5 +4,6 @@ pub mod Read
 pub mod Validity
 pub mod Fault
 pub mod Lookup
+pub mod Extension
 pub mod Value
 pub mod Steps

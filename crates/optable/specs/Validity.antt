@@ -60,10 +60,6 @@ above t k h i =
 unfoldable pub rises : List ℕ → Part → ℕ → Bool
 rises t k i = eqb i 0 || above t k (i - 1) i
 
--- both indexes exist
-unfoldable pub indexed : List ℕ → Part → ℕ → Bool
-indexed t k i = ltb (firstAt t k i) (count t Operations) && ltb (secondAt t k i) (count t (secondPart k))
-
 -- ---- types and classes
 
 -- type 0 means none and needs its optional flag 0; the low five bits of another type are not all ones
@@ -71,8 +67,8 @@ unfoldable pub ruleRight : Rule → Bool
 ruleRight r = cond (eqb (r .identifier) 0) (not (r .optional)) (not (eqb (r .identifier % 32) 31))
 
 -- classes 3 and 5 have result type 0
-abbrev pub resultless : ℕ → Bool
-resultless class = eqb class 3 || eqb class 5
+unfoldable pub resultRight : ℕ → Rule → Bool
+resultRight class result = not (eqb class 3 || eqb class 5) || eqb (result .identifier) 0
 
 -- an operation: class 1 to 5, no other flags than 1 and 2
 unfoldable pub operationRight : ℕ → ℕ → Rule → Rule → Bool
@@ -82,7 +78,7 @@ operationRight class flags argument result =
     && (leb flags 3
     && (ruleRight argument
     && (ruleRight result
-    && (not (resultless class) || eqb (result .identifier) 0)))))
+    && resultRight class result))))
 
 -- an error: its flag is 1 or 0
 unfoldable pub errorRight : ℕ → Rule → Bool
@@ -97,7 +93,10 @@ allowed ChildPairs class = not (eqb class 5)
 
 -- a pair: its indexes exist, and its operation's class allows it
 unfoldable pub pairRight : List ℕ → Part → ℕ → Bool
-pairRight t k i = indexed t k i && allowed k (classAt t (firstAt t k i))
+pairRight t k i =
+    ltb (firstAt t k i) (count t Operations)
+    && (ltb (secondAt t k i) (count t (secondPart k))
+    && allowed k (classAt t (firstAt t k i)))
 
 -- ---- the whole
 

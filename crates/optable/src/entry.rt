@@ -1,15 +1,19 @@
-// Whether a part's entries are right, each by itself and in their order.
+// Which rule a part's entries break, each by itself and in their order.
 ghost use mathlib.Core.Path.{_≡_};
 ghost use mathlib.Core.Bool.{true};
 ghost use lib.ListN.{length};
 ghost use Prim.Native.Nat.{_-_, _≤_, _<_};
-ghost use Rattle.optable.specs.Validity.{laidOut, operationRight, allowed, pairRight, coded, above, rises, fieldsRight, entryRight};
+ghost use Rattle.optable.specs.Validity.{laidOut, coded, above, rises};
 ghost use Rattle.optable.specs.Read.{count, classAt};
-ghost use Rattle.optable.specs.Fault.{firstWrong};
+ghost use Rattle.optable.specs.Fault.{pairBreach, fieldsBreach, entryBreach, firstWrong, entryFault};
 ghost use Rattle.optable.specs.Steps.{Stands, countsOf};
+use crate::Breach;
+use crate::Fault;
 use crate::Part;
-use crate::Place;
 use crate::Rule;
+use crate::fields::error_breach;
+use crate::fields::is_allowed;
+use crate::fields::operation_breach;
 use crate::read::count_within;
 use crate::read::four_within;
 use crate::read::is_below;
@@ -18,49 +22,6 @@ use crate::read::size_of;
 use crate::read::start_within;
 use crate::read::two_within;
 use records::Code;
-
-fn is_operation_right(class: u8, flags: u8, argument: Rule, result: Rule) -> bool
-    ensures { λ r. ⌜ r ≡ operationRight class flags argument result ⌝ }
-{
-    if class < 1 {
-        return false;
-    }
-    if class > 5 {
-        return false;
-    }
-    if flags > 3 {
-        return false;
-    }
-    if !argument.is_right() {
-        return false;
-    }
-    if !result.is_right() {
-        return false;
-    }
-    if class == 3 {
-        return result.identifier == 0;
-    }
-    if class == 5 {
-        return result.identifier == 0;
-    }
-    true
-}
-
-fn is_allowed(part: Part, class: u8) -> bool
-    ensures { λ r. ⌜ r ≡ allowed part class ⌝ }
-{
-    match part {
-        Part::Operations => false,
-        Part::Errors => false,
-        Part::ErrorPairs => {
-            if class == 4 {
-                return false;
-            }
-            class != 5
-        }
-        Part::ChildPairs => class != 5,
-    }
-}
 
 // An entry that a walk has reached: its index, where it starts, and where the entry before it starts.
 struct Reached {
@@ -93,18 +54,21 @@ fn class_within(table: &[u8], i: u16) -> u8
     table[16 + (i as usize) * 8 + 4]
 }
 
-fn is_pair_right(table: &[u8], part: Part, reached: Reached, counts: Counts) -> bool
+fn pair_breach(table: &[u8], part: Part, reached: Reached, counts: Counts) -> Breach
     requires { ⌜ Stands (now table) part reached × (counts ≡ countsOf (now table) part) ⌝ }
-    ensures { λ r. ⌜ r ≡ pairRight (now (table .entry)) part (reached .index) ⌝ }
+    ensures { λ r. ⌜ r ≡ pairBreach (now (table .entry)) part (reached .index) ⌝ }
 {
     let operation = two_within(table, reached.at);
     if operation >= counts.operations {
-        return false;
+        return Breach::FirstIndex;
     }
     if two_within(table, reached.at + 2) >= counts.seconds {
-        return false;
+        return Breach::SecondIndex;
     }
-    is_allowed(part, class_within(table, operation))
+    if !is_allowed(part, class_within(table, operation)) {
+        return Breach::PairClass;
+    }
+    Breach::Unbroken
 }
 
 fn is_coded(part: Part) -> bool
@@ -142,9 +106,9 @@ fn is_rising(table: &[u8], part: Part, reached: Reached) -> bool
     is_above(table, part, reached)
 }
 
-fn is_operation_at_right(table: &[u8], reached: Reached) -> bool
+fn operation_at_breach(table: &[u8], reached: Reached) -> Breach
     requires { ⌜ Stands (now table) Part.Operations reached ⌝ }
-    ensures { λ r. ⌜ r ≡ fieldsRight (now (table .entry)) Part.Operations (reached .index) ⌝ }
+    ensures { λ r. ⌜ r ≡ fieldsBreach (now (table .entry)) Part.Operations (reached .index) ⌝ }
 {
     let at = reached.at;
     let flags = table[at + 7];
@@ -156,52 +120,53 @@ fn is_operation_at_right(table: &[u8], reached: Reached) -> bool
         identifier: table[at + 6],
         optional: flags / 2 % 2 == 1,
     };
-    is_operation_right(table[at + 4], flags, argument, result)
+    operation_breach(table[at + 4], flags, argument, result)
 }
 
-fn is_error_at_right(table: &[u8], reached: Reached) -> bool
+fn error_at_breach(table: &[u8], reached: Reached) -> Breach
     requires { ⌜ Stands (now table) Part.Errors reached ⌝ }
-    ensures { λ r. ⌜ r ≡ fieldsRight (now (table .entry)) Part.Errors (reached .index) ⌝ }
+    ensures { λ r. ⌜ r ≡ fieldsBreach (now (table .entry)) Part.Errors (reached .index) ⌝ }
 {
     let at = reached.at;
     let flag = table[at + 5];
-    if flag > 1 {
-        return false;
-    }
     let parameter = Rule {
         identifier: table[at + 4],
         optional: flag % 2 == 1,
     };
-    parameter.is_right()
+    error_breach(flag, parameter)
 }
 
-// Whether an entry is right by itself.
-fn are_fields_right(table: &[u8], part: Part, reached: Reached, counts: Counts) -> bool
+// What an entry breaks by itself.
+fn fields_breach(table: &[u8], part: Part, reached: Reached, counts: Counts) -> Breach
     requires { ⌜ Stands (now table) part reached × (counts ≡ countsOf (now table) part) ⌝ }
-    ensures { λ r. ⌜ r ≡ fieldsRight (now (table .entry)) part (reached .index) ⌝ }
+    ensures { λ r. ⌜ r ≡ fieldsBreach (now (table .entry)) part (reached .index) ⌝ }
 {
     match part {
-        Part::Operations => is_operation_at_right(table, reached),
-        Part::Errors => is_error_at_right(table, reached),
-        Part::ErrorPairs => is_pair_right(table, part, reached, counts),
-        Part::ChildPairs => is_pair_right(table, part, reached, counts),
+        Part::Operations => operation_at_breach(table, reached),
+        Part::Errors => error_at_breach(table, reached),
+        Part::ErrorPairs => pair_breach(table, part, reached, counts),
+        Part::ChildPairs => pair_breach(table, part, reached, counts),
     }
 }
 
-fn is_entry_right(table: &[u8], part: Part, reached: Reached, counts: Counts) -> bool
+fn entry_breach(table: &[u8], part: Part, reached: Reached, counts: Counts) -> Breach
     requires { ⌜ Stands (now table) part reached × (counts ≡ countsOf (now table) part) ⌝ }
-    ensures { λ r. ⌜ r ≡ entryRight (now (table .entry)) part (reached .index) ⌝ }
+    ensures { λ r. ⌜ r ≡ entryBreach (now (table .entry)) part (reached .index) ⌝ }
 {
-    if !are_fields_right(table, part, reached, counts) {
-        return false;
+    let fields = fields_breach(table, part, reached, counts);
+    if !fields.is_unbroken() {
+        return fields;
     }
-    is_rising(table, part, reached)
+    if !is_rising(table, part, reached) {
+        return Breach::Order;
+    }
+    Breach::Unbroken
 }
 
 // One walk over a part, to its first entry that is wrong.
-pub(crate) fn first_wrong(table: &[u8], part: Part) -> Place
+pub(crate) fn first_wrong(table: &[u8], part: Part) -> Fault
     requires { ⌜ laidOut (now table) ≡ true ⌝ }
-    ensures { λ r. ⌜ r ≡ firstWrong (now (table .entry)) part ⌝ }
+    ensures { λ r. ⌜ r ≡ entryFault (now (table .entry)) part (firstWrong (now (table .entry)) part) ⌝ }
 {
     let n = count_within(table, part);
     let counts = counts_of(table, part);
@@ -215,12 +180,17 @@ pub(crate) fn first_wrong(table: &[u8], part: Part) -> Place
             at,
             before,
         };
-        if !is_entry_right(table, part, reached, counts) {
-            return Place::At(i);
+        let breach = entry_breach(table, part, reached, counts);
+        if !breach.is_unbroken() {
+            return Fault::Entry {
+                part,
+                index: i,
+                breach,
+            };
         }
         before = at;
         at += size;
         i += 1;
     }
-    Place::Nowhere
+    Fault::Nothing
 }

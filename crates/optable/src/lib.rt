@@ -3,22 +3,26 @@ ghost use mathlib.Core.Path.{_≡_};
 ghost use Rattle.optable.specs.Validity.{valid};
 ghost use Rattle.optable.specs.Fault.{firstFault};
 ghost use Rattle.optable.specs.Lookup.{operationIn, errorIn, paired, childOf, hasChild, CodeAnswer, PairAnswer};
+ghost use Rattle.optable.specs.Extension.{extension, ExtendsAnswer};
 ghost use Rattle.base.specs.Lists.{nonEmpty};
 ghost use Rattle.optable.specs.Value.{valueRight};
 
 mod answer;
 mod entry;
+mod extending;
+mod fields;
 mod lookup;
 pub mod read;
 mod validity;
 
+use extending::part_extension;
 use lookup::find;
 use lookup::has_pair;
 use lookup::is_joined;
 use read::error_at;
 use read::operation_at;
 use records::Code;
-use validity::is_laid_out;
+use validity::layout_fault;
 use validity::part_fault;
 
 // The parts of a table, in their order.
@@ -41,12 +45,57 @@ pub struct Rule {
     pub optional: bool,
 }
 
-// What is wrong with a table: the offsets or its length, a part's count, or an entry.
+// The first rule that a table breaks.
 pub enum Fault {
     Nothing,
-    Layout,
+    // There are fewer octets than a header has.
+    Header,
+    // A part does not start where the one before it ends, the first at 16.
+    Offset(Part),
+    // The table does not end where its last part does.
+    Length,
+    // A part has more entries than it may have.
     Count(Part),
-    Entry { part: Part, index: u16 },
+    Entry {
+        part: Part,
+        index: u16,
+        breach: Breach,
+    },
+}
+
+// The rule that an entry breaks.
+pub enum Breach {
+    Unbroken,
+    // An operation's class is 1 to 5.
+    Class,
+    // An operation has no flags but 1 and 2, an error none but 1.
+    Flags,
+    // What has type 0 is not optional.
+    ArgumentFlag,
+    // The low five bits of a type are not all ones.
+    ArgumentType,
+    ResultFlag,
+    ResultType,
+    // Classes 3 and 5 have result type 0.
+    ResultUnexpected,
+    ParameterFlag,
+    ParameterType,
+    // The first index is that of an operation.
+    FirstIndex,
+    // The second index is that of an error, or of a child operation.
+    SecondIndex,
+    // An operation of class 4 or 5 has no error pair, one of class 5 no child pair.
+    PairClass,
+    // Codes and pairs rise.
+    Order,
+}
+
+// Whether a table extends another, or the first thing against it: an entry of the old table that the new one has not.
+pub enum Extension {
+    Complete,
+    OldInvalid,
+    NewInvalid,
+    Missing { part: Part, index: u16 },
 }
 
 pub enum Operation {
@@ -64,12 +113,13 @@ pub enum Error {
     Unknown,
 }
 
-// The first fault of a table, in document 01's order.
+// The first rule that a table breaks: those of its layout first, then part by part its count and its entries in turn.
 pub fn first_fault(table: &[u8]) -> Fault
     ensures { λ r. ⌜ r ≡ firstFault (now (table .entry)) ⌝ }
 {
-    if !is_laid_out(table) {
-        return Fault::Layout;
+    let layout = layout_fault(table);
+    if !layout.is_nothing() {
+        return layout;
     }
     let operations = part_fault(table, Part::Operations);
     if !operations.is_nothing() {
@@ -131,6 +181,38 @@ pub fn has_child(table: &[u8], parent: Code) -> bool
         Place::At(i) => has_pair(table, Part::ChildPairs, i, 0, 65535),
         Place::Nowhere => false,
     }
+}
+
+// Whether the new table extends the old one, and what is missing first where it does not.
+pub fn first_missing(new: &[u8], old: &[u8]) -> Extension
+    ensures { λ r. ⌜ r ≡ extension (now (new .entry)) (now (old .entry)) ⌝ }
+{
+    if !valid(old) {
+        return Extension::OldInvalid;
+    }
+    if !valid(new) {
+        return Extension::NewInvalid;
+    }
+    let operations = part_extension(new, old, Part::Operations);
+    if !operations.is_complete() {
+        return operations;
+    }
+    let errors = part_extension(new, old, Part::Errors);
+    if !errors.is_complete() {
+        return errors;
+    }
+    let pairs = part_extension(new, old, Part::ErrorPairs);
+    if !pairs.is_complete() {
+        return pairs;
+    }
+    part_extension(new, old, Part::ChildPairs)
+}
+
+// Whether both tables are valid and the new one extends the old one, as demand 3 asks of a controller's table.
+pub fn extends(new: &[u8], old: &[u8]) -> bool
+    ensures { λ r. ⌜ ExtendsAnswer (now (new .entry)) (now (old .entry)) r ⌝ }
+{
+    first_missing(new, old).is_complete()
 }
 
 // Whether a value, empty for none, is right by a rule.

@@ -3,7 +3,7 @@ ghost use mathlib.Core.Path.{_≡_};
 ghost use Prim.Native.Nat.{_+_, _<_, _≤_};
 ghost use lib.ListN.{getD, length};
 ghost use Rattle.optable.specs.Read.{u16, u32, headOf, sizeOf, count, start, entryStart, octetAt, codeAt, hasCode, operationAt, errorAt, firstAt, secondAt, secondPart, rank, below};
-ghost use Rattle.optable.specs.Validity.{behind};
+ghost use Rattle.optable.specs.Validity.{limitOf, behind};
 use crate::Error;
 use crate::Operation;
 use crate::Part;
@@ -78,6 +78,18 @@ pub(crate) fn size_of(part: Part) -> usize
         Part::Errors => 6,
         Part::ErrorPairs => 4,
         Part::ChildPairs => 4,
+    }
+}
+
+// How many entries a part may have.
+pub fn limit_of(part: Part) -> u16
+    ensures { λ r. ⌜ r ≡ limitOf part ⌝ }
+{
+    match part {
+        Part::Operations => 64,
+        Part::Errors => 64,
+        Part::ErrorPairs => 256,
+        Part::ChildPairs => 256,
     }
 }
 

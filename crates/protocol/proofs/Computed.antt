@@ -11,7 +11,7 @@ use Rattle.ber.specs.Element.{constructed, restRight, elementsIn, elementWith, 
 use Rattle.ber.specs.Integer.{signOf, pattern, integerOf, fitsOctets, octetCount, integerOctets}
 use Rattle.optable.specs.Count.{every, any, seek}
 use Rattle.optable.specs.Read.{count, start, entryStart, octetAt, codeAt, hasCode, operationAt, errorAt, firstAt, secondAt}
-use Rattle.optable.specs.Validity.{withinLimit, behind, laidOut, ruleRight, operationRight, errorRight, pairBelow, pairRight, indexed, allowed, above, rises, fieldsRight, entryRight, partRight, valid}
+use Rattle.optable.specs.Validity.{withinLimit, behind, laidOut, ruleRight, resultRight, operationRight, errorRight, pairBelow, pairRight, allowed, above, rises, fieldsRight, entryRight, partRight, valid}
 use Rattle.optable.specs.Lookup.{Extends, known, find, operationIn, operationOf, errorIn, errorOf, joins, joined, parentAt, hasChild}
 use Rattle.optable.specs.Value.{valueRight}
 use Rattle.apdu.specs.Field.{fieldsWith, fieldsIn}
@@ -38,7 +38,7 @@ pub record Computed : Type 0 where
   pub once : UsesIdsOnce (final tableO tableN (begin fresh) good)
 
 pub computed : Computed
-unfolding answerTo pairBelow pairRight numberFrom digits continued oneOf highTag identifierOctets lengthOf lengthCount lengthOctets headerWith headerOf shortest parts contentRule constructed restRight elementsIn elementWith elementOf sizeIn size fills wellFormed elementOctets signOf pattern integerOf fitsOctets octetCount integerOctets every any seek count start entryStart octetAt codeAt hasCode operationAt errorAt firstAt secondAt withinLimit behind laidOut ruleRight operationRight errorRight indexed allowed above rises fieldsRight entryRight partRight valid find operationIn operationOf errorIn errorOf joins joined parentAt hasChild valueRight fieldsWith fieldsIn numberOf numberUnder isCode codeOf codedWith codedOf linkedWith linkedOf invokeWith invokeBehind resultWith resultBehind errorBehind mostProblem isProblem idAllowed rejectWith rejectBehind rejectOf behindId withId byKind parseAt parse nonEmpty linkedField rejectedField valueField bodyField encodeInvoke encodeResult encodeError encodeReject usable valueWell withinLimits fault invokeChecks resultChecks errorChecks receiveApdu laterChecks done perform
+unfolding answerTo pairBelow pairRight resultRight numberFrom digits continued oneOf highTag identifierOctets lengthOf lengthCount lengthOctets headerWith headerOf shortest parts contentRule constructed restRight elementsIn elementWith elementOf sizeIn size fills wellFormed elementOctets signOf pattern integerOf fitsOctets octetCount integerOctets every any seek count start entryStart octetAt codeAt hasCode operationAt errorAt firstAt secondAt withinLimit behind laidOut ruleRight operationRight errorRight allowed above rises fieldsRight entryRight partRight valid find operationIn operationOf errorIn errorOf joins joined parentAt hasChild valueRight fieldsWith fieldsIn numberOf numberUnder isCode codeOf codedWith codedOf linkedWith linkedOf invokeWith invokeBehind resultWith resultBehind errorBehind mostProblem isProblem idAllowed rejectWith rejectBehind rejectOf behindId withId byKind parseAt parse nonEmpty linkedField rejectedField valueField bodyField encodeInvoke encodeResult encodeError encodeReject usable valueWell withinLimits fault invokeChecks resultChecks errorChecks receiveApdu laterChecks done perform
 computed = record {
   marked = refl;
   run = refl;

@@ -1,72 +1,69 @@
-// Prints each operation table whose file is named, or its first fault: document 01, 'Operation table'.
-mod entry;
-mod header;
-mod listing;
-mod text;
+// Writes each operation table whose file is named in words, or its first fault, or whether one table extends another: docs/TABLES.md.
+mod extension;
 
-use entry::entry_line;
-use header::count_line;
-use header::layout_line;
-use listing::table_lines;
+use extension::compare;
+use libc::STDERR_FILENO;
+use libc::STDOUT_FILENO;
+use listing::files::Contents;
+use listing::files::file_name;
+use listing::files::is_argument;
 use optable::Fault;
 use optable::first_fault;
-use text::complain;
-use text::line_end;
-use text::number;
-use text::say;
+use text::out::decimal;
+use text::out::words;
 
-fn fault_line(table: &[u8], fault: Fault) {
-    match fault {
-        Fault::Nothing => {}
-        Fault::Layout => layout_line(table),
-        Fault::Count(part) => count_line(table, part),
-        Fault::Entry { part, index } => entry_line(table, part, index),
+pub(crate) fn say(s: &[u8]) {
+    words(STDOUT_FILENO, s);
+}
+
+fn report_valid(table: &[u8]) {
+    say(b": valid, ");
+    decimal(STDOUT_FILENO, table.len() as u64);
+    say(b" octets\n");
+    listing::print_table(STDOUT_FILENO, table);
+}
+
+pub(crate) fn report_fault(table: &[u8], fault: Fault) {
+    if table.len() > 4095 {
+        say(b": longer than any table, which has at most 2960 octets\n");
+        return;
     }
-    line_end();
+    say(b": ");
+    listing::print_fault(STDOUT_FILENO, table, fault);
 }
 
 fn report(name: &[u8], table: &[u8]) {
     say(name);
     let fault = first_fault(table);
     if fault.is_nothing() {
-        say(b": valid, ");
-        number(table.len() as u64);
-        say(b" octets\n");
-        table_lines(table);
+        report_valid(table);
         return;
     }
-    say(b": ");
-    fault_line(table, fault);
-}
-
-fn check_octets(name: &[u8], table: &[u8], size: usize) {
-    if size < table.len() {
-        report(name, &table[0..size]);
-        return;
-    }
-    say(name);
-    say(b": longer than any table, which has at most 2960 octets\n");
+    report_fault(table, fault);
 }
 
 fn check_file(name: &[u8], table: &mut [u8]) {
-    let fd = os::open_read(name);
-    if fd < 0 {
-        os::fail(name);
-        return;
+    match listing::files::read(name, table) {
+        Contents::Of(size) => {
+            if size <= table.len() {
+                report(name, &table[0..size]);
+            }
+        }
+        Contents::Unreadable => {}
     }
-    let size = io::read_full(fd, table);
-    libc::close(fd);
-    check_octets(name, table, size);
 }
 
 fn check_argument(i: usize, table: &mut [u8]) {
     let mut name = io::buffer();
-    let n = os::arg(i, &mut name);
-    if os::errno() != 0 {
-        complain(b"tabcheck: a file name is too long\n");
-        return;
+    let n = file_name(
+        b"tabcheck",
+        b"tabcheck FILE... or tabcheck --extends OLD NEW",
+        i,
+        &mut name,
+    );
+    if n > 0 {
+        check_file(&name[..n], table);
     }
-    check_file(&name[..n], table);
 }
 
 fn check_all(count: usize, table: &mut [u8]) {
@@ -78,10 +75,18 @@ fn check_all(count: usize, table: &mut [u8]) {
 }
 
 fn main() {
-    let mut table = io::buffer();
     let count = os::arg_count();
     if count < 2 {
-        complain(b"tabcheck: name the files of the tables to check: tabcheck FILE...\n");
+        words(
+            STDERR_FILENO,
+            b"tabcheck: name the files of the tables to check: tabcheck FILE... or tabcheck --extends OLD NEW\n",
+        );
+        return;
     }
+    if is_argument(1, b"--extends") {
+        compare(count);
+        return;
+    }
+    let mut table = io::buffer();
     check_all(count, &mut table);
 }

@@ -6,7 +6,7 @@ use std::process::ExitCode;
 
 use second::coverage::{self, Coverage};
 use second::drive::{self, Drive};
-use second::{compare, ends, examples, generate};
+use second::{compare, ends, examples, generate, tables};
 
 const USAGE: &str = "second play [places]         play a script from standard input; the word play may be left out
 second repeat COUNT          play it, but make each call COUNT times from the state as it was, to measure it
@@ -20,6 +20,9 @@ second compare PROGRAM SEEDS COUNT [places]
 second ends [PROGRAM] SEED COUNT
                              run a kiosk and a controller, both by PROGRAM if there is one, for COUNT calls;
                              fails if demand 3 does not hold at each
+second tables TABCHECK TABMAKE SEED COUNT
+                             ask the two programs about COUNT tables, their texts, faults and extensions;
+                             fails at the first answer that differs
 
 With places each line ends with the place of the indicated value in the received octets; PROGRAM is then started with
 the argument places, else without arguments.
@@ -57,6 +60,10 @@ fn run(arguments: &[&str]) -> Result<bool, String> {
         }
         (["ends", seed, count], false) => two_ends(None, seed, count),
         (["ends", program, seed, count], false) => two_ends(Some(program), seed, count),
+        (["tables", tabcheck, tabmake, seed, count], false) => {
+            let (seed, count) = (number(seed, "SEED", 0)?, number(count, "COUNT", tables::LEAST as u64)?);
+            show(tables::run(tabcheck, tabmake, seed, count as usize)?)
+        }
         _ => Err(format!("'{}' with {} more arguments is no command", arguments[0], arguments.len() - 1)),
     }
 }

@@ -106,14 +106,40 @@ impl Model {
 
     /// A valid table with every part as long as allowed.
     pub fn full(random: &mut Random) -> Model {
-        let mut model = Model::lists(random, Self::MOST[0], Self::MOST[1]);
+        Model::sized(random, Self::MOST)
+    }
+
+    /// Parts of these lengths, at least nine operations; fewer pairs where there are not so many.
+    pub fn sized(random: &mut Random, counts: [usize; 4]) -> Model {
+        let mut model = Model::lists(random, counts[0], counts[1]);
         model.operations[0].class = 1 + random.octet() % 3;
         Model::settle(&mut model.operations[0]);
         for row in &mut model.operations[1..9] {
             row.class = 2;
         }
-        model.error_pairs = some_of(random, model.allowed_error_pairs(), Self::MOST[2]);
-        model.child_pairs = some_of(random, model.allowed_child_pairs(), Self::MOST[3]);
+        model.error_pairs = some_of(random, model.allowed_error_pairs(), counts[2]);
+        model.child_pairs = some_of(random, model.allowed_child_pairs(), counts[3]);
+        model
+    }
+
+    /// A valid table with any types, now and then without some of its parts.
+    pub fn varied(random: &mut Random) -> Model {
+        let mut model = Model::random(random);
+        let bare = random.below(16);
+        if random.percent(60) {
+            model.operations.iter_mut().for_each(|row| vary(row, random));
+            for row in &mut model.errors {
+                row.parameter = any_type(random);
+                row.optional = u8::from(row.parameter != 0) & random.octet();
+            }
+        }
+        match bare {
+            0 => return Model { errors: model.errors, ..Model::default() },
+            1 => return Model { operations: model.operations, ..Model::default() },
+            2 => model.error_pairs.clear(),
+            3 => model.child_pairs.clear(),
+            _ => {}
+        }
         model
     }
 
@@ -203,6 +229,20 @@ fn random_error(random: &mut Random, code: i32) -> ErrorRow {
     let parameter = TYPES[random.below(TYPES.len())];
     let optional = if parameter == 0 { 0 } else { random.octet() & 1 };
     ErrorRow { code, parameter, optional }
+}
+
+/// Gives an operation other types and flags.
+fn vary(row: &mut OperationRow, random: &mut Random) {
+    (row.argument, row.result, row.flags) = (any_type(random), any_type(random), random.octet() & 3);
+    Model::settle(row);
+}
+
+/// Any type of a valid table, 0 too.
+pub fn any_type(random: &mut Random) -> u8 {
+    match random.octet() {
+        octet if octet & 0x1F == 0x1F => octet & 0xE0,
+        octet => octet,
+    }
 }
 
 /// So many different codes, rising.

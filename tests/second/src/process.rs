@@ -16,7 +16,7 @@ const LONGEST_LINE: u64 = 1 << 20;
 /// Starts a program, with the argument `places` if it is to show them.
 fn start(program: &str, places: bool) -> Result<(Child, ChildStdin, ChildStdout), String> {
     let mut command = Command::new(program);
-    command.args(places.then_some("places")).stdin(Stdio::piped()).stdout(Stdio::piped());
+    command.args(places.then_some("places")).stdin(Stdio::piped()).stdout(Stdio::piped()).stderr(Stdio::null());
     let mut child = command.spawn().map_err(|error| {
         format!("{program} does not start ({error}): give the path of a program of the drive protocol")
     })?;

@@ -7,3 +7,4 @@ mod gate;
 mod lines;
 mod readings;
 mod rules;
+mod tables;

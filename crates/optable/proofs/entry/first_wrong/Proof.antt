@@ -35,19 +35,19 @@ loop-holds : tie.Need-loop-holds Inv-loop μ-loop
 loop-holds c =
     (omega arith, c .start-within .ensures ∙ first-entry _ _, λ p. absurd (omega arith), walk-starts _ _ _ (c .before .before .before .count-within .ensures))
 
-is-entry-right-requires : tie.Need-is-entry-right-requires Inv-loop μ-loop
-is-entry-right-requires c κs =
+entry-breach-requires : tie.Need-entry-breach-requires Inv-loop μ-loop
+entry-breach-requires c κs =
     let loop = c .before in let at = loop .before in let counts = at .before .before in let count = counts .before in let start = count .before .before in
     (walk-stands _ (start .pre) (count .count-within .ensures) (omega arith) (omega arith) (omega (arith, at .start-within .ensures)) (loop .loop .inv .1) (loop .loop .inv .2), counts .counts-of .ensures)
 
 returns : tie.Need-returns Inv-loop μ-loop
 returns c =
-    let loop = c .before .before .before in
-    wrong-found _ _ _ _ (loop .loop .inv .3) (omega arith) (said-no (c .before .is-entry-right .ensures) (c .if1 .taken))
+    let told = c .before in let loop = told .before .before .before in
+    wrong-found _ _ _ _ (loop .loop .inv .3) (omega arith) (told .before .entry-breach .ensures) (said-no (told .is-unbroken .ensures) (c .if1 .taken))
 
 add-at : tie.Need-add-at Inv-loop μ-loop
 add-at c =
-    let loop = c .before .before .before in let at = loop .before in
+    let loop = c .before .before .before .before in let at = loop .before in
     omega (arith, walk-near _ _ (loop .loop .i) (loop .loop .inv .1) (omega (arith, at .start-within .ensures)) (omega arith), at .before .size-of .ensures .1)
 
 add-i : tie.Need-add-i Inv-loop μ-loop
@@ -58,11 +58,11 @@ loop-less c = omega arith
 
 loop-again : tie.Need-loop-again Inv-loop μ-loop
 loop-again c =
-    let loop = c .before .before .before in let at = loop .before in (
+    let told = c .before in let loop = told .before .before .before in let at = loop .before in (
       omega arith,
       walk-next _ _ (loop .loop .i) (loop .loop .inv .1) (at .before .size-of .ensures .0),
       λ _. walk-last _ _ (loop .loop .i) (loop .loop .inv .1),
-      right-passed _ _ _ _ (loop .loop .inv .3) (omega arith) (said-yes (c .before .is-entry-right .ensures) (c .if1 .left)),
+      right-passed _ _ _ _ (loop .loop .inv .3) (omega arith) (told .before .entry-breach .ensures) (said-yes (told .is-unbroken .ensures) (c .if1 .left)),
     )
 
 returns-2 : tie.Need-returns-2 Inv-loop μ-loop
@@ -72,4 +72,4 @@ pub first-wrong-spec : {M : Type 1} → statement M
 first-wrong-spec =
     tie.close
     (tie.spec Inv-loop μ-loop count-within-requires counts-of-requires (λ c κs. search needs) start-within-requires (λ c. search needs) loop-holds
-    is-entry-right-requires returns add-at add-i loop-less loop-again returns-2)
+    entry-breach-requires (λ c κs. search needs) returns add-at add-i loop-less loop-again returns-2)

@@ -1,6 +1,5 @@
 -- The count decides, then the first wrong entry.
 use Rattle.base.proofs.Tests.{said-no, said-yes}
-use Rattle.optable.specs.declared.Place.the-variants.{At, Nowhere}
 use Rattle.optable.proofs.LayoutLaws.{header-there}
 use Rattle.optable.proofs.FaultLaws.{part-too-long, entry-decides}
 use borrow.Author.Needs.{needs}
@@ -15,14 +14,8 @@ returns c = part-too-long _ _ (said-no (c .before .is-within-limit .ensures) (c 
 
 returns-2 : tie.Need-returns-2
 returns-2 c =
-    let index = c .before in let f = index .before .before in let l = f .before in
-    entry-decides _ _ (At (index .index .given .0 .0)) (said-yes (l .before .is-within-limit .ensures) (l .if1 .left)) (f .first-wrong .ensures) (cc)
-
-returns-3 : tie.Need-returns-3
-returns-3 c =
-    let f = c .before .before in let l = f .before in
-    entry-decides _ _ Nowhere (said-yes (l .before .is-within-limit .ensures) (l .if1 .left)) (f .first-wrong .ensures) (cc)
+    let right = c .before in
+    entry-decides _ _ (said-yes (right .before .is-within-limit .ensures) (right .if1 .left)) (c .first-wrong .ensures)
 
 pub part-fault-spec : {M : Type 1} → statement M
-part-fault-spec =
-    tie.close (tie.spec is-within-limit-requires returns (λ c κs. search needs) (λ c. search needs) (λ c. search needs) returns-2 returns-3)
+part-fault-spec = tie.close (tie.spec is-within-limit-requires returns (λ c κs. search needs) returns-2)

@@ -1,0 +1,123 @@
+// The rule that an entry breaks, in words.
+use crate::entry::part_name;
+use optable::Breach;
+use optable::Operation;
+use optable::Part;
+use optable::Rule;
+use optable::read::count;
+use optable::read::error_at;
+use optable::read::first_at;
+use optable::read::octet_at;
+use optable::read::operation_at;
+use optable::read::second_at;
+use optable::read::second_part;
+use text::out::decimal;
+use text::out::octet;
+use text::out::words;
+
+fn class_breach(fd: i32, class: u8) {
+    words(fd, b"class is ");
+    decimal(fd, class as u64);
+    words(fd, b", expected 1 to 5");
+}
+
+// The octet of an entry that has its flags.
+fn flags_of(table: &[u8], part: Part, i: u16) -> u8 {
+    match part {
+        Part::Operations => octet_at(table, part, i, 7),
+        _ => octet_at(table, part, i, 5),
+    }
+}
+
+fn flags_breach(fd: i32, part: Part, flags: u8) {
+    words(fd, b"flags are ");
+    octet(fd, flags);
+    match part {
+        Part::Operations => words(fd, b", expected 00 to 03"),
+        _ => words(fd, b", expected 00 or 01"),
+    }
+}
+
+fn flag_breach(fd: i32, name: &[u8]) {
+    words(fd, name);
+    words(fd, b" is optional but has type 00");
+}
+
+fn type_breach(fd: i32, name: &[u8], rule: Rule) {
+    words(fd, name);
+    words(fd, b" type is ");
+    octet(fd, rule.identifier);
+    words(fd, b", whose low five bits are all ones");
+}
+
+fn unexpected_breach(fd: i32, operation: Operation) {
+    words(fd, b"result type is ");
+    octet(fd, operation.result().identifier);
+    words(fd, b", expected 00 for class ");
+    decimal(fd, operation.class() as u64);
+}
+
+fn index_breach(fd: i32, name: &[u8], index: u16, limit: u16) {
+    words(fd, name);
+    words(fd, b" index is ");
+    decimal(fd, index as u64);
+    words(fd, b", expected below ");
+    decimal(fd, limit as u64);
+}
+
+fn first_breach(fd: i32, table: &[u8], part: Part, i: u16) {
+    let limit = count(table, Part::Operations);
+    index_breach(fd, b"first", first_at(table, part, i), limit);
+}
+
+fn second_breach(fd: i32, table: &[u8], part: Part, i: u16) {
+    let limit = count(table, second_part(part));
+    index_breach(fd, b"second", second_at(table, part, i), limit);
+}
+
+fn pair_class_breach(fd: i32, table: &[u8], part: Part, i: u16) {
+    let operation = first_at(table, part, i);
+    let class = operation_at(table, operation).class();
+    words(fd, b"operation ");
+    decimal(fd, operation as u64);
+    words(fd, b" is of class ");
+    decimal(fd, class as u64);
+    words(fd, b", which has no ");
+    part_name(fd, part);
+}
+
+fn is_pair(part: Part) -> bool {
+    match part {
+        Part::Operations => false,
+        Part::Errors => false,
+        Part::ErrorPairs => true,
+        Part::ChildPairs => true,
+    }
+}
+
+fn order_breach(fd: i32, part: Part) {
+    if is_pair(part) {
+        words(fd, b"pairs do not rise");
+        return;
+    }
+    words(fd, b"codes do not rise");
+}
+
+pub(crate) fn breach_words(fd: i32, table: &[u8], part: Part, i: u16, breach: Breach) {
+    match breach {
+        Breach::Unbroken => {}
+        Breach::Class => class_breach(fd, operation_at(table, i).class()),
+        Breach::Flags => flags_breach(fd, part, flags_of(table, part, i)),
+        Breach::ArgumentFlag => flag_breach(fd, b"argument"),
+        Breach::ArgumentType => { type_breach(fd, b"argument", operation_at(table, i).argument()) }
+        Breach::ResultFlag => flag_breach(fd, b"result"),
+        Breach::ResultType => type_breach(fd, b"result", operation_at(table, i).result()),
+        Breach::ResultUnexpected => unexpected_breach(fd, operation_at(table, i)),
+        Breach::ParameterFlag => flag_breach(fd, b"parameter"),
+        Breach::ParameterType => { type_breach(fd, b"parameter", error_at(table, i).parameter()) }
+        Breach::FirstIndex => first_breach(fd, table, part, i),
+        Breach::SecondIndex => second_breach(fd, table, part, i),
+        Breach::PairClass => pair_class_breach(fd, table, part, i),
+        Breach::Order => order_breach(fd, part),
+    }
+}

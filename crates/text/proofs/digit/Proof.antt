@@ -1,0 +1,15 @@
+-- The test is the definition's.
+use borrow.Author.Needs.{needs}
+use borrow.Author.Tests.{lt-ltb, le-ltb}
+use Rattle.base.proofs.Tests.{cond-true, cond-false}
+use Rattle.text.proofs.digit.Statement.{statement}
+use Rattle.text.proofs.digit.Tie as tie
+
+returns : tie.Need-returns
+returns c = cond-true _ _ (lt-ltb _ _ (c .if1 .taken))
+
+returns-2 : tie.Need-returns-2
+returns-2 c = cond-false _ _ (le-ltb _ _ (c .if1 .left))
+
+pub digit-spec : {M : Type 1} → statement M
+digit-spec = tie.close (tie.spec (λ c. search needs) (λ c. search needs) returns returns-2)
