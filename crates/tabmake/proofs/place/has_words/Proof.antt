@@ -5,10 +5,10 @@ use Rattle.tabmake.proofs.place.has_words.Statement.{statement}
 use Rattle.tabmake.proofs.place.has_words.Tie as tie
 
 abbrev Inv-loop : tie.InvT-loop
-Inv-loop line words i₀ i-end i = i ≤ i-end
+Inv-loop line words is-last i₀ i-end i = i ≤ i-end
 
 abbrev μ-loop : tie.MeasureT-loop
-μ-loop line words i₀ i-end i = i-end - i
+μ-loop line words is-last i₀ i-end i = i-end - i
 
 pub has-words-spec : {M : Type 1} → statement M
 has-words-spec =
