@@ -7,10 +7,10 @@ use lib.ListN.{length, drop}
 use Rattle.ber.specs.declared.header.Header.{Header}
 use Rattle.ber.specs.declared.header.Header.the-variants.{At, NoHeader}
 use Rattle.ber.specs.Header.{headerOf}
-use Rattle.ber.specs.Element.{part}
+use Rattle.base.specs.Octets.{part}
 use Rattle.ber.proofs.HeaderLaws.{Bounds, header-bounds}
 use Rattle.apdu.specs.Field.{Part, partInside, partBehind, Field, fieldsWith, fieldsIn, fields}
-use Rattle.apdu.proofs.PartLaws.{part-part, part-rest, part-length}
+use Rattle.base.proofs.PartLaws.{part-part, part-rest, part-length}
 
 -- p is a part of the octets s
 pub record Stands (s : List ℕ) (p : Part) : Type 0 where

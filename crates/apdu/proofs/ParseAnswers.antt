@@ -11,7 +11,8 @@ use Rattle.base.proofs.Tests.{cond-true, cond-false, and-true, and-false-left, 
 use Rattle.records.specs.Limits.{levels}
 use Rattle.ber.specs.declared.header.Header.the-variants.{At, NoHeader}
 use Rattle.ber.specs.Header.{headerOf}
-use Rattle.ber.specs.Element.{part, makesElement, contentsOf, wellFormed}
+use Rattle.base.specs.Octets.{part}
+use Rattle.ber.specs.Element.{makesElement, contentsOf, wellFormed}
 use Rattle.ber.proofs.ElementAnswers.{well-formed-headless, well-formed-at}
 use Rattle.apdu.specs.declared.Number.{Number}
 use Rattle.apdu.specs.declared.Number.the-variants.{Of}

@@ -6,7 +6,7 @@ use Rattle.ber.specs.declared.header.Header.{Header}
 use Rattle.ber.specs.declared.header.Header.the-variants.{At, NoHeader}
 use Rattle.ber.specs.Header.{headerOf}
 use Rattle.ber.specs.Integer.{octetCount}
-use Rattle.ber.specs.Element.{part}
+use Rattle.base.specs.Octets.{part}
 use Rattle.apdu.specs.declared.Number.{Number}
 use Rattle.apdu.specs.declared.Number.the-variants.{Of, Absent}
 use Rattle.apdu.specs.declared.field.Coded.{Coded as CodedPlaces}

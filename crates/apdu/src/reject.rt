@@ -1,9 +1,9 @@
 // A received Reject: document 01, 'The four APDUs'.
 use crate::Number;
 use crate::Parsed;
-use crate::field::between;
 use crate::field::field_at;
 use crate::field::number_under;
+use base::octets::between;
 use ber::header::Header;
 use records::OwnId;
 use records::PeerId;

@@ -15,7 +15,8 @@ use Rattle.ber.specs.declared.element.Checked.{Checked}
 use Rattle.ber.specs.declared.element.Checked.the-variants.{Good, NoElement}
 use Rattle.ber.specs.Header.{headerOf}
 use Rattle.ber.specs.Rule.{contentRule}
-use Rattle.ber.specs.Element.{part, constructed, makesElement, elementWith, elementOf, contentsOf, fills, wellFormed}
+use Rattle.base.specs.Octets.{part}
+use Rattle.ber.specs.Element.{constructed, makesElement, elementWith, elementOf, contentsOf, fills, wellFormed}
 use Rattle.ber.proofs.HeaderLaws.{header-bounds}
 use Rattle.ber.proofs.ElementLaws.{good-size, fault-size, contents-cons, contents-fault, contents-none}
 

@@ -14,7 +14,8 @@ use Rattle.ber.specs.declared.element.Checked.{Checked}
 use Rattle.ber.specs.declared.element.Checked.the-variants.{Good, NoElement}
 use Rattle.ber.specs.Header.{headerOf}
 use Rattle.ber.specs.Rule.{contentRule}
-use Rattle.ber.specs.Element.{part, constructed, makesElement, restRight, elementsIn, elementWith, elementOf, contentsOf, sizeIn, size, fills, wellFormed}
+use Rattle.base.specs.Octets.{part}
+use Rattle.ber.specs.Element.{constructed, makesElement, restRight, elementsIn, elementWith, elementOf, contentsOf, sizeIn, size, fills, wellFormed}
 use Rattle.ber.proofs.HeaderLaws.{Bounded, header-bounded}
 
 -- ---- the size and the answer of the check

@@ -13,7 +13,8 @@ use Rattle.base.proofs.Tests.{and-left, and-right}
 use Rattle.ber.specs.declared.header.Header.the-variants.{At}
 use Rattle.ber.specs.Header.{oneOf, refusedIdentifiers, identifierOctets, lengthOf, lengthOctets, headerOf}
 use Rattle.ber.specs.Rule.{contentRule}
-use Rattle.ber.specs.Element.{part, constructed, contentsOf, size, elementOctets}
+use Rattle.base.specs.Octets.{part}
+use Rattle.ber.specs.Element.{constructed, contentsOf, size, elementOctets}
 use Rattle.ber.proofs.HeaderAnswers.{identifier-low}
 use Rattle.ber.proofs.HeaderFacts.{header-made}
 use Rattle.ber.proofs.ElementLaws.{element-made}

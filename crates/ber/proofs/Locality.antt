@@ -11,7 +11,8 @@ use Rattle.base.proofs.Tests.{cond-elim₂}
 use Rattle.ber.specs.declared.element.Checked.{Checked}
 use Rattle.ber.specs.declared.element.Checked.the-variants.{Good, NoElement}
 use Rattle.ber.specs.Rule.{contentRule}
-use Rattle.ber.specs.Element.{part, constructed, restRight, elementsIn, elementOf, contentsOf, size, wellFormed}
+use Rattle.base.specs.Octets.{part}
+use Rattle.ber.specs.Element.{constructed, restRight, elementsIn, elementOf, contentsOf, size, wellFormed}
 use Rattle.ber.proofs.HeaderLaws.{Bounds, header-bounds}
 use Rattle.ber.proofs.HeaderFacts.{header-prefix}
 use Rattle.ber.proofs.ElementLaws.{good-size, size-good, element-bounds, Element, element-facts, element-made, well-formed-size, size-well-formed}

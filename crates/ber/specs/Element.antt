@@ -3,18 +3,15 @@ use Prim.Native.Nat.{ℕ, zero, suc, _+_, _-_, _/_, _%_}
 use mathlib.Core.List.{List, [], _∷_, _++_}
 use mathlib.Core.Bool.{Bool, true, false, cond, _&&_}
 use mathlib.Core.Option.{Option, some, none}
-use lib.ListN.{length, take, drop}
+use lib.ListN.{length, drop}
 use lib.Dec.{eqb}
+use Rattle.base.specs.Octets.{part}
 use Rattle.ber.specs.declared.header.Header.{Header}
 use Rattle.ber.specs.declared.header.Header.the-variants.{At, NoHeader}
 use Rattle.ber.specs.declared.element.Checked.{Checked}
 use Rattle.ber.specs.declared.element.Checked.the-variants.{Good, NoElement}
 use Rattle.ber.specs.Header.{headerOf, lengthOctets}
 use Rattle.ber.specs.Rule.{contentRule}
-
--- the octets from a up to e
-abbrev pub part : List ℕ → ℕ → ℕ → List ℕ
-part s a e = take (e - a) (drop a s)
 
 -- bit 6 of the identifier
 unfoldable pub constructed : ℕ → Bool

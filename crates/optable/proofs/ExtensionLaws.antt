@@ -17,12 +17,13 @@ use Rattle.optable.specs.declared.Operation.the-variants.{Listed, Unlist
 use Rattle.optable.specs.declared.Error.{Error}
 use Rattle.optable.specs.declared.Error.the-variants.{Known, Unknown}
 use Rattle.optable.specs.declared.Extension.the-variants.{OldInvalid, NewInvalid}
-use Rattle.optable.specs.Count.{every}
+use Rattle.base.specs.Count.{every}
 use Rattle.optable.specs.Read.{count, codeAt, hasCode, operationAt, errorAt, firstAt, secondAt, secondPart}
 use Rattle.optable.specs.Validity.{valid, coded}
 use Rattle.optable.specs.Lookup.{find, operationIn, operationOf, errorIn, errorOf, listed, known, joins, joined, Extends}
 use Rattle.optable.specs.Extension.{sameRule, sameOperation, sameError, pairIn, entryIn, complete, firstOf, missingAt, firstMissing, partExtension, extension, ExtendsAnswer}
-use Rattle.optable.proofs.CountLaws.{every-at, every-all, any-here, any-where, seek-every}
+use Rattle.base.proofs.CountLaws.{every-at, every-all, any-here, any-where}
+use Rattle.optable.proofs.CountLaws.{seek-every}
 use Rattle.optable.proofs.ListLaws.{has-code-is, find-held}
 use Rattle.optable.proofs.TableLaws.{operation-at, error-at}
 

@@ -15,7 +15,8 @@ use Rattle.optable.specs.declared.Place.the-variants.{At}
 use Rattle.optable.specs.Read.{count, rank, codeAt, hasCode, secondPart}
 use Rattle.optable.specs.Validity.{withinLimit, coded, above, rises}
 use Rattle.optable.specs.Lookup.{find, ordered, Holds}
-use Rattle.optable.proofs.CountLaws.{every-at, seek-is, seek-facts}
+use Rattle.base.proofs.CountLaws.{every-at}
+use Rattle.optable.proofs.CountLaws.{seek-is, seek-facts}
 
 pub second-coded : (k : Part) → coded (secondPart k) ≡ true
 second-coded Operations = refl

@@ -15,7 +15,7 @@ use Rattle.optable.specs.declared.Error.{Error}
 use Rattle.optable.specs.Read.{count, hasCode, operationAt, errorAt, classAt, firstAt, secondAt, secondPart}
 use Rattle.optable.specs.Validity.{limitOf, withinLimit, laidOut, coded, rises, allowed, pairRight, fieldsRight, entryRight, partRight, valid}
 use Rattle.optable.specs.Lookup.{operationIn, operationOf, errorIn, errorOf, listed, classOf, known, joins, joined, paired, childOf, parentAt, hasChild, ordered, CodeAnswer}
-use Rattle.optable.proofs.CountLaws.{every-at, every-all, any-here, any-where}
+use Rattle.base.proofs.CountLaws.{every-at, every-all, any-here, any-where}
 use Rattle.optable.proofs.ListLaws.{has-code-is, codes-distinct, find-is}
 
 module _ (t : List ℕ) (v : valid t ≡ true) where

@@ -11,7 +11,8 @@ use Rattle.optable.specs.declared.Part.{Part}
 use Rattle.optable.specs.declared.Part.the-variants.{Operations, Errors, ErrorPairs, ChildPairs}
 use Rattle.optable.specs.declared.Breach.{Breach}
 use Rattle.optable.specs.declared.entry.Reached.{Reached}
-use Rattle.optable.specs.Read.{u16, u32, sizeOf, count, start, entryStart, octetAt, codeAt, classAt, firstAt, secondAt, below}
+use Rattle.base.specs.Octets.{u16, u32}
+use Rattle.optable.specs.Read.{sizeOf, count, start, entryStart, octetAt, codeAt, classAt, firstAt, secondAt, below}
 use Rattle.optable.specs.Validity.{laidOut, allowed, coded, pairBelow, above}
 use Rattle.optable.specs.Fault.{operationBreach, errorBreach, pairBreach, fieldsBreach}
 use Rattle.optable.specs.Steps.{Stands}

@@ -4,7 +4,8 @@ use mathlib.Core.Path.{_≡_}
 use mathlib.Core.Bool.{Bool, true, false, _&&_}
 use mathlib.Core.List.{List}
 use Rattle.records.specs.declared.Code.{Code}
-use Rattle.optable.specs.Count.{every, any, seek}
+use Rattle.base.specs.Count.{every, any}
+use Rattle.optable.specs.Count.{seek}
 use Rattle.optable.specs.Read.{count, hasCode, operationAt, errorAt, firstAt, secondAt, secondPart}
 use Rattle.optable.specs.Validity.{withinLimit, rises, valid}
 use Rattle.optable.specs.declared.Part.{Part}

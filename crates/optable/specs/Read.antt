@@ -4,6 +4,7 @@ use mathlib.Core.Bool.{Bool}
 use mathlib.Core.List.{List}
 use lib.ListN.{getD}
 use lib.Dec.{eqb, ltb}
+use Rattle.base.specs.Octets.{u16, u32}
 use Rattle.records.specs.declared.Code.{Code}
 use Rattle.records.specs.Records.{sameCode}
 use Rattle.optable.specs.declared.Part.{Part}
@@ -13,16 +14,6 @@ use Rattle.optable.specs.declared.Operation.{Operation}
 use Rattle.optable.specs.declared.Operation.the-variants.{Listed}
 use Rattle.optable.specs.declared.Error.{Error}
 use Rattle.optable.specs.declared.Error.the-variants.{Known}
-
--- ---- numbers, big-endian
-
--- the u16 that starts there
-abbrev pub u16 : List ℕ → ℕ → ℕ
-u16 t at = getD t at 0 * 256 + getD t (at + 1) 0
-
--- the four octets that start there
-abbrev pub u32 : List ℕ → ℕ → ℕ
-u32 t at = u16 t at * 65536 + u16 t (at + 2)
 
 -- ---- the header of 16 octets
 

@@ -1,7 +1,7 @@
 // The search for a code among operations or errors, and for a pair among error pairs or child pairs.
 ghost use mathlib.Core.Path.{_≡_};
 ghost use mathlib.Core.Bool.{false};
-ghost use Rattle.optable.specs.Count.{any};
+ghost use Rattle.base.specs.Count.{any};
 ghost use Rattle.optable.specs.Read.{count};
 ghost use Rattle.optable.specs.Validity.{coded};
 ghost use Rattle.optable.specs.Lookup.{joined, CodeAnswer, PairAnswer};

@@ -1,23 +1,16 @@
 // What a table's octets say, an octet behind the end being 0.
 ghost use mathlib.Core.Path.{_≡_};
 ghost use Prim.Native.Nat.{_+_, _<_, _≤_};
-ghost use lib.ListN.{getD, length};
-ghost use Rattle.optable.specs.Read.{u16, u32, headOf, sizeOf, count, start, entryStart, octetAt, codeAt, hasCode, operationAt, errorAt, firstAt, secondAt, secondPart, rank, below};
+ghost use lib.ListN.{length};
+ghost use Rattle.base.specs.Octets.{u16, u32};
+ghost use Rattle.optable.specs.Read.{headOf, sizeOf, count, start, entryStart, octetAt, codeAt, hasCode, operationAt, errorAt, firstAt, secondAt, secondPart, rank, below};
 ghost use Rattle.optable.specs.Validity.{limitOf, behind};
 use crate::Error;
 use crate::Operation;
 use crate::Part;
 use crate::Rule;
+use base::octets::octet;
 use records::Code;
-
-fn octet(table: &[u8], at: usize) -> u8
-    ensures { λ r. ⌜ r ≡ getD (now (table .entry)) at 0 ⌝ }
-{
-    if at < table.len() {
-        return table[at];
-    }
-    0
-}
 
 // Two octets that the table has.
 pub(crate) fn two_within(table: &[u8], at: usize) -> u16

@@ -18,7 +18,7 @@ use Rattle.optable.specs.Lookup.{Extends, operationOf, errorOf, known, paired}
 use Rattle.optable.proofs.TableLaws.{paired-known}
 use Rattle.apdu.specs.declared.Number.the-variants.{Of}
 use Rattle.apdu.specs.declared.CodeField.the-variants.{Local}
-use Rattle.apdu.specs.Field.{Part, octetsOf}
+use Rattle.apdu.specs.Field.{Part}
 use Rattle.apdu.specs.Parse.{CodedValue, Apdu, parse, result as Result, error as Error}
 use Rattle.apdu.proofs.RoundTrip.{bodyOf}
 use Rattle.protocol.specs.Call.{receive, rejecting, refused, isRefused}

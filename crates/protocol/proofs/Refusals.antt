@@ -1,14 +1,11 @@
 -- Refusals: each has one of document 01's numbers, and one that is no 18 has nothing but its number.
 use Prim.Native.Nat.{ℕ, _≤_}
-use mathlib.Core.Path.{_≡_, refl, sym, ap, _∙_}
-use mathlib.Core.Logic.{inl, inr}
-use mathlib.Core.Bool.{Bool, true, not, _&&_, false≢true}
+use mathlib.Core.Path.{_≡_, refl}
 use mathlib.Core.List.{List, [], _∷_}
-use lib.Dec.{eqb, lit≤}
+use lib.Dec.{lit≤}
 use types.Run.{OneOf}
 use denote.Enum.Declared.{tagOf}
-use borrow.Author.Tests.{eq-eqb}
-use Rattle.base.proofs.Tests.{and-left, and-right}
+use Rattle.base.proofs.Keys.{no-key}
 use Rattle.protocol.proofs.Refusal as refusal
 use Rattle.protocol.specs.declared.Refusal.{Refusal as Reason}
 use Rattle.protocol.specs.declared.Refusal.the-variants.{InvalidTable, ShortOutput, LongInput, UnknownOperation, IdInUse, SynchronousLive, UnknownLinkedId, NotAChild, MalformedValue, MistypedValue, NoRecord, WrongClass, UnlistedError, RecordsFull, LargeApdu, WrongProblem, UnacceptableReject, Rejected, UnsoundState}
@@ -39,18 +36,6 @@ numbered (Rejected i k p) = (lit≤ tt, lit≤ tt)
 numbered UnsoundState = (lit≤ tt, lit≤ tt)
 
 -- ---- one that has not the tag of an 18
-
-abbrev differs : ℕ → List ℕ → Bool
-differs x [] = true
-differs x (k ∷ ks) = not (eqb x k) && differs x ks
-
-unequal : (x k : ℕ) → not (eqb x k) ≡ true → x ≡ k → ⊥
-unequal x k d e = false≢true (ap not (sym (eq-eqb x k e)) ∙ d)
-
-no-key : (k : ℕ) (ks : List ℕ) (x : ℕ) → differs x (k ∷ ks) ≡ true → OneOf (k ∷ ks) x → ⊥
-no-key k [] x d e = unequal x k (and-left (not (eqb x k)) _ d) e
-no-key k (n ∷ ks) x d (inl e) = unequal x k (and-left (not (eqb x k)) _ d) e
-no-key k (n ∷ ks) x d (inr o) = no-key n ks x (and-right (not (eqb x k)) _ d) o
 
 -- the tags of all but an 18, behind the first
 abbrev others : List ℕ

@@ -5,8 +5,6 @@ use mathlib.Core.List.{List, _++_}
 use mathlib.Core.Option.{some, none}
 use lib.ListN.{length, drop}
 use Rattle.records.specs.declared.State.{State}
-use Rattle.apdu.specs.declared.Number.{Number}
-use Rattle.apdu.specs.declared.Number.the-variants.{Of, Absent}
 use Rattle.apdu.specs.Reading.{readOwnLink, readValue, readBody}
 use Rattle.protocol.specs.declared.Invocation.{Invocation}
 use Rattle.protocol.specs.declared.Invocation.the-variants.{Own, Peer}
