@@ -1,0 +1,4 @@
+mod SameLaws
+mod AskingLaws
+mod PlayLaws
+mod Witness

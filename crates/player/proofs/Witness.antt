@@ -1,0 +1,112 @@
+-- Captures that compute: a day that agrees, and days that differ in one place or are refused.
+use Prim.Native.Nat.{ℕ, _+_, _*_}
+use mathlib.Core.Path.{_≡_, refl}
+use mathlib.Core.List.{List, [], _∷_, _++_, map}
+use lib.ListN.{length}
+use Rattle.ber.specs.Header.{numberFrom, digits, continued, oneOf, highTag, identifierOctets, lengthOf, lengthCount, lengthOctets, headerWith, headerOf}
+use Rattle.ber.specs.Rule.{shortest, parts, contentRule}
+use Rattle.base.specs.Lists.{nonEmpty}
+use Rattle.ber.specs.Element.{constructed, restRight, elementsIn, elementWith, elementOf, sizeIn, size, fills, wellFormed, elementOctets}
+use Rattle.ber.specs.Integer.{signOf, pattern, integerOf, fitsOctets, octetCount, integerOctets}
+use Rattle.base.specs.Count.{every, any}
+use Rattle.optable.specs.Count.{seek}
+use Rattle.optable.specs.Read.{count, start, entryStart, octetAt, codeAt, hasCode, operationAt, errorAt, firstAt, secondAt}
+use Rattle.optable.specs.Validity.{withinLimit, behind, laidOut, ruleRight, resultRight, operationRight, errorRight, pairBelow, pairRight, allowed, above, rises, fieldsRight, entryRight, partRight, valid}
+use Rattle.optable.specs.Lookup.{find, operationIn, operationOf, errorIn, errorOf, joins, joined, parentAt, hasChild}
+use Rattle.optable.specs.Value.{valueRight}
+use Rattle.apdu.specs.Field.{fieldsWith, fieldsIn}
+use Rattle.apdu.specs.Parse.{numberOf, numberUnder, isCode, codeOf, codedWith, codedOf, linkedWith, linkedOf, invokeWith, invokeBehind, resultWith, resultBehind, mostProblem, isProblem, idAllowed, rejectWith, rejectBehind, rejectOf, behindId, withId, byKind, parseAt, parse, errorBehind}
+use Rattle.apdu.specs.Encode.{linkedField, rejectedField, valueField, bodyField, encodeInvoke, encodeResult, encodeError, encodeReject}
+use Rattle.protocol.specs.Check.{usable, valueWell, withinLimits}
+use Rattle.protocol.specs.Receive.{fault, invokeChecks, resultChecks, errorChecks, receiveApdu}
+use Rattle.protocol.specs.Perform.{laterChecks, done, perform}
+use Rattle.capture.specs.Format.{count as captureCount, dataOffset, kindRight, zeroRight, sizeFits, sizeRight, entryRight as captureEntryRight, headed, dataEnd, placed, endToEnd, valid as captureValid}
+use Rattle.capture.specs.Entry.{entryAt}
+use Rattle.player.specs.Play.{Verdict, agree, differsAt, refusedWith, requestOf, forgetOf, sameOctets, agreed, asked, playedAs, playOne, play, replay}
+
+-- operation 7 of class 2, argument and optional result of type 02
+abbrev table : List ℕ
+table =
+    0x00 ∷ 0x01 ∷ 0x00 ∷ 0x10 ∷ 0x00 ∷ 0x00 ∷ 0x00 ∷ 0x18 ∷ 0x00 ∷ 0x00 ∷ 0x00 ∷ 0x18 ∷ 0x00 ∷ 0x00 ∷ 0x00 ∷ 0x18
+    ∷ 0x00 ∷ 0x00 ∷ 0x00 ∷ 0x07 ∷ 0x02 ∷ 0x02 ∷ 0x02 ∷ 0x02
+    ∷ []
+
+-- ---- captures of fewer than 256 octets, laid out of entries
+
+record Laid : Type 0 where
+  kind : ℕ
+  octets : List ℕ
+
+abbrev received : List ℕ → Laid
+received x = record { kind = 0; octets = x }
+
+abbrev sent : List ℕ → Laid
+sent x = record { kind = 1; octets = x }
+
+abbrev forgot : List ℕ → Laid
+forgot x = record { kind = 2; octets = x }
+
+-- the entries of the index, whose data starts there
+abbrev indexOf : ℕ → List Laid → List ℕ
+indexOf at [] = []
+indexOf at (e ∷ l) = e .kind ∷ 0 ∷ 0 ∷ length (e .octets) ∷ 0 ∷ 0 ∷ 0 ∷ at ∷ indexOf (at + length (e .octets)) l
+
+abbrev dataOf : List Laid → List ℕ
+dataOf [] = []
+dataOf (e ∷ l) = e .octets ++ dataOf l
+
+abbrev laid : List Laid → List ℕ
+laid l = let start = 8 + length l * 8 in 0 ∷ 0 ∷ 0 ∷ length l ∷ 0 ∷ 0 ∷ 0 ∷ start ∷ indexOf start l ++ dataOf l
+
+-- ---- APDUs
+
+-- invocation 1 of operation 7
+abbrev asks : List ℕ
+asks = 0xA1 ∷ 0x09 ∷ 0x02 ∷ 0x01 ∷ 0x01 ∷ 0x02 ∷ 0x01 ∷ 0x07 ∷ 0x02 ∷ 0x01 ∷ 0x03 ∷ []
+
+-- its result, and its Reject where it comes again
+abbrev answers : List ℕ
+answers = 0xA2 ∷ 0x0B ∷ 0x02 ∷ 0x01 ∷ 0x01 ∷ 0x30 ∷ 0x06 ∷ 0x02 ∷ 0x01 ∷ 0x07 ∷ 0x02 ∷ 0x01 ∷ 0x0C ∷ []
+
+abbrev refuses : List ℕ
+refuses = 0xA4 ∷ 0x06 ∷ 0x02 ∷ 0x01 ∷ 0x01 ∷ 0x82 ∷ 0x01 ∷ 0x00 ∷ []
+
+-- an invocation of operation 9, which is not listed, and its Reject, whose octets are a Reject of an invocation
+abbrev asksOther : List ℕ
+asksOther = 0xA1 ∷ 0x06 ∷ 0x02 ∷ 0x01 ∷ 0x05 ∷ 0x02 ∷ 0x01 ∷ 0x09 ∷ []
+
+abbrev refusesOther : List ℕ
+refusesOther = 0xA4 ∷ 0x06 ∷ 0x02 ∷ 0x01 ∷ 0x05 ∷ 0x81 ∷ 0x01 ∷ 0x01 ∷ []
+
+abbrev forgets : ℕ → List ℕ
+forgets side = side ∷ 0x00 ∷ 0x00 ∷ 0x00 ∷ 0x01 ∷ []
+
+-- ---- days, and what is said of them
+
+abbrev days : List (List ℕ)
+days =
+    laid []
+    -- the Reject of a repeated answer is awaited, and found
+    ∷ laid (sent asks ∷ received answers ∷ received answers ∷ sent refuses ∷ [])
+    -- it is not played as a user reject, which would be refused
+    ∷ laid (received asksOther ∷ sent refusesOther ∷ [])
+    -- it is missing at the end; it is received, and not sent; it was not called for
+    ∷ laid (sent asks ∷ received answers ∷ received answers ∷ [])
+    ∷ laid (sent asks ∷ received answers ∷ received answers ∷ received refuses ∷ [])
+    ∷ laid (sent asks ∷ received answers ∷ sent refuses ∷ [])
+    -- a Reject that nobody can answer goes by: 17
+    ∷ laid (received refuses ∷ sent asks ∷ [])
+    -- an own invocation is forgotten once; a third side fits no call
+    ∷ laid (sent asks ∷ forgot (forgets 0) ∷ forgot (forgets 0) ∷ [])
+    ∷ laid (sent asks ∷ forgot (forgets 2) ∷ [])
+    -- the id is in use, so that the second entry differs: but the capture has an octet behind the end
+    ∷ (laid (sent asks ∷ sent asks ∷ []) ++ (0 ∷ []))
+    ∷ []
+
+abbrev verdicts : List Verdict
+verdicts = agree 0 ∷ agree 4 ∷ agree 2 ∷ differsAt 3 ∷ differsAt 3 ∷ differsAt 2 ∷ agree 2 ∷ differsAt 2 ∷ differsAt 1 ∷ refusedWith 20 ∷ []
+
+-- the days, and a wrong table with a malformed capture: 1 before 20
+pub replayed : (map (replay table) days ≡ verdicts) × (replay [] [] ≡ refusedWith 1)
+unfolding pairBelow pairRight resultRight numberFrom digits continued oneOf highTag identifierOctets lengthOf lengthCount lengthOctets headerWith headerOf shortest parts contentRule constructed restRight elementsIn elementWith elementOf sizeIn size fills wellFormed elementOctets signOf pattern integerOf fitsOctets octetCount integerOctets every any seek count start entryStart octetAt codeAt hasCode operationAt errorAt firstAt secondAt withinLimit behind laidOut ruleRight operationRight errorRight allowed above rises fieldsRight entryRight partRight valid find operationIn operationOf errorIn errorOf joins joined parentAt hasChild valueRight fieldsWith fieldsIn numberOf numberUnder isCode codeOf codedWith codedOf linkedWith linkedOf invokeWith invokeBehind resultWith resultBehind errorBehind mostProblem isProblem idAllowed rejectWith rejectBehind rejectOf behindId withId byKind parseAt parse nonEmpty linkedField rejectedField valueField bodyField encodeInvoke encodeResult encodeError encodeReject usable valueWell withinLimits fault invokeChecks resultChecks errorChecks receiveApdu laterChecks done perform captureCount dataOffset kindRight zeroRight sizeFits sizeRight captureEntryRight headed dataEnd placed endToEnd captureValid entryAt requestOf forgetOf sameOctets agreed asked playedAs playOne play replay
+replayed = (refl, refl)
