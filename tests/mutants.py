@@ -1,8 +1,9 @@
 #!/usr/bin/env python3
-"""Changes the second program in one place at a time and shows that `second compare` finds each change.
+"""Changes the second program in one place at a time and shows that `second compare` or `second replays` finds each change.
 
-Prints a table of place, change, where compare found it, and whether `second ends` found it too. Both are run by the unchanged
-program beside the changed one. Fails if a change is not found or no longer applies.
+Prints a table of place, change, where compare found it, and whether `second ends` found it too, and a table of place, change and
+where replays found it. All are run by the unchanged program beside the changed one. Fails if a change is not found or no longer
+applies.
 Use: python3 tests/mutants.py [WORD]   (WORD: only changes whose place or description contains it)
 """
 
@@ -17,6 +18,7 @@ import tempfile
 SECOND = pathlib.Path(__file__).resolve().parent / "second"
 SEEDS, CALLS = "40", "2000"
 ENDS_CALLS = "20000"
+REPLAYS_SEED, REPLAYS_COUNT = "1", "400"
 
 # File, what the change is, the text, the text in its place; a fifth item means that `ends` must find it too.
 MUTANTS = [
@@ -133,6 +135,65 @@ MUTANTS = [
     ("answer.rs", "an error's parameter has no place", "Indication::Invoke { value, .. } | Indication::Error { value, .. }", "Indication::Invoke { value, .. }"),
 ]
 
+# File, what the change is, the text, the text in its place; found by `replays`.
+REPLAY_MUTANTS = [
+    ("capture.rs", "60,001 octets allowed", "if capture.len() > OCTETS {", "if capture.len() > OCTETS + 1 {"),
+    ("capture.rs", "59,999 octets only", "if capture.len() > OCTETS {", "if capture.len() >= OCTETS {"),
+    ("capture.rs", "1,001 entries allowed", "if count > ENTRIES {", "if count > ENTRIES + 1 {"),
+    ("capture.rs", "999 entries only", "if count > ENTRIES {", "if count >= ENTRIES {"),
+    ("capture.rs", "count read from its last two octets", "        if count > ENTRIES {", "        let count = count & 0xFFFF;\n        if count > ENTRIES {"),
+    ("capture.rs", "data offset worked out in 32 bits", "        if count > ENTRIES {\n            return Err(Malformed::Count);\n        }\n        if start != HEADER + PLACE * count {",
+     "        if start as u32 != 8_u32.wrapping_add((count as u32).wrapping_mul(8)) {\n            return Err(Malformed::Count);\n        }\n        let count = count & 0xFF_FFFF;\n        if count > ENTRIES {"),
+    ("capture.rs", "data offset not checked", "let [count, start] = numbers(header);", "let [count, _] = numbers(header);\n        let start = HEADER + PLACE * count.min(ENTRIES);"),
+    ("capture.rs", "data offset not checked without entries", "let [count, start] = numbers(header);",
+     "let [count, start] = numbers(header);\n        let start = if count == 0 { HEADER } else { start };"),
+    ("capture.rs", "kind 3 allowed", "            2 => Some(Kind::Forget),\n", "            2 => Some(Kind::Forget),\n            3 => Some(Kind::Received),\n"),
+    ("capture.rs", "zero octet not checked", "if place[1] != 0 {", "if place[1] == 3 {"),
+    ("capture.rs", "only the zero octet's first bit checked", "if place[1] != 0 {", "if place[1] > 127 {"),
+    ("capture.rs", "an entry without octets allowed", "if length == 0 {", "if length == 0 && kind == Some(Kind::Forget) {"),
+    ("capture.rs", "4,095 octets an entry only", "if length > State::OCTETS {", "if length >= State::OCTETS {"),
+    ("capture.rs", "4,097 octets an entry allowed", "if length > State::OCTETS {", "if length > State::OCTETS + 1 {"),
+    ("capture.rs", "forget of 6 octets allowed", "length != FORGET {", "length < FORGET {"),
+    ("capture.rs", "forget of 4 octets allowed", "length != FORGET {", "length > FORGET {"),
+    ("capture.rs", "gap let pass", "Err(Malformed::Gap)", "Ok(offset + length)"),
+    ("capture.rs", "overlap let pass", "Err(Malformed::Overlap)", "Ok(offset + length)"),
+    ("capture.rs", "offset read from its last two octets", "    if kind.is_none() {\n", "    let offset = offset & 0xFFFF;\n    if kind.is_none() {\n"),
+    ("capture.rs", "octets behind the data let pass", "Err(Malformed::OctetsBehind)", "Ok(Reader { index, data })"),
+    ("capture.rs", "cut data let pass", "Err(Malformed::DataCut)", "Ok(Reader { index, data })"),
+    ("replay.rs", "20 before 1", "if Table::new(table).is_none() {", "if Table::new(table).is_none() && Reader::new(capture).is_ok() {"),
+    ("replay.rs", "places counted from 1", "format!(\"entry {place} differs\\n\")", "format!(\"entry {} differs\\n\", place + 1)"),
+    ("replay.rs", "a singular for one entry", "Verdict::Agrees { entries } => format!", "Verdict::Agrees { entries: 1 } => \"entry 1 agrees\\n\".to_string(),\n            Verdict::Agrees { entries } => format!"),
+    ("replay.rs", "received entry named where its Reject is missing", "place: entries, how: How::RejectMissing", "place: entries - 1, how: How::RejectMissing"),
+    ("replay.rs", "agreement where the Reject is missing at the end", "_ => Verdict::Differs { place: entries, how: How::RejectMissing },", "_ => Verdict::Agrees { entries },"),
+    ("replay.rs", "awaited Reject played as a request", "self.output[..written] => Ok(Step::RejectFound),", "self.output[..written] => self.sent(entry.octets).map(|_| Step::RejectFound),"),
+    ("replay.rs", "received entry named where another Reject follows", "Err(how) => return Verdict::Differs { place, how },",
+     "Err(how @ How::RejectOther) => return Verdict::Differs { place: place - 1, how },\n            Err(how) => return Verdict::Differs { place, how },"),
+    ("replay.rs", "awaited Reject's octets not compared", "Kind::Sent if *entry.octets == self.output[..written] =>", "Kind::Sent if written > 0 =>"),
+    ("replay.rs", "awaited Reject may be received", "            _ => Err(How::RejectNotSent),", "            _ if *entry.octets == self.output[..written] => Ok(Step::RejectFound),\n            _ => Err(How::RejectNotSent),"),
+    ("replay.rs", "no Reject awaited", "                self.awaited = written;\n", "                let _ = written;\n"),
+    ("replay.rs", "17 is a difference", "            Err(Refusal::UnacceptableReject) => Ok(Step::PassedOver),\n", ""),
+    ("replay.rs", "17 awaits an entry", "Err(Refusal::UnacceptableReject) => Ok(Step::PassedOver)", "Err(Refusal::UnacceptableReject) => {\n                self.awaited = 1;\n                Ok(Step::PassedOver)\n            }"),
+    ("replay.rs", "10 octets lent to receive", "octets, &mut self.output) {", "octets, &mut self.output[..10]) {"),
+    ("replay.rs", "an entry's own length lent to receive", "octets, &mut self.output) {", "octets, &mut self.output[..octets.len()]) {"),
+    ("replay.rs", "side 2 taken for peer", "[1, a, b, c, d] =>", "[1 | 2, a, b, c, d] =>"),
+    ("replay.rs", "every other side taken for peer", "[1, a, b, c, d] =>", "[1..=255, a, b, c, d] =>"),
+    ("replay.rs", "another side goes by", "_ => return Err(How::OtherSide),", "_ => return Ok(Step::PassedOver),"),
+    ("replay.rs", "sides exchanged", "[0, a, b, c, d] => (\"forget of an own record\", Invocation::Own(", "[0, a, b, c, d] => (\"forget of an own record\", Invocation::Peer("),
+    ("replay.rs", "refused forget goes by", "Err(refusal) => Err(How::Refused(name, refusal.number())),", "Err(_) => Ok(Step::Forgotten(invocation)),"),
+    ("replay.rs", "refused request goes by", "        let written = written.map_err(|refusal| How::Refused(name, refusal.number()))?;\n", "        let Ok(written) = written else { return Ok(Step::Sent(apdu)) };\n"),
+    ("replay.rs", "sent octets not compared", "if self.output[..written] == *octets {", "if written > 0 {"),
+    ("replay.rs", "sent octets compared in length only", "if self.output[..written] == *octets {", "if written == octets.len() {"),
+    ("replay.rs", "a result's code compared with nothing", "if self.output[..written] == *octets {",
+     "if self.output[..written] == *octets || matches!(apdu, Apdu::Result { returned: Some((_, value)), .. } if octets.ends_with(value)) {"),
+    ("replay.rs", "an error's lengths not compared", "if self.output[..written] == *octets {", "if self.output[..written] == *octets || matches!(apdu, Apdu::Error { .. }) {"),
+    ("replay.rs", "linked id left out of the request", "let asked = (id, linked, code", "let _ = linked;\n                let asked = (id, None, code"),
+    ("replay.rs", "a Reject nobody called for goes by", "Apdu::Reject { id, problem } => return Err(How::NoUserReject(id, problem)),", "Apdu::Reject { .. } => return Ok(Step::Sent(apdu)),"),
+    ("replay.rs", "sent octets that are no APDU go by", "apdu::read(octets).map_err(|unreadable| How::Unreadable(unreadable.problem))?;", "match apdu::read(octets) {\n            Ok(apdu) => apdu,\n            Err(_) => return Ok(Step::PassedOver),\n        };"),
+    ("replay.rs", "a 60,001st octet not seen", "(vec![0; most + 1], 0)", "(vec![0; most], 0)"),
+    ("replay.rs", "an unreadable capture has no entries", ".unwrap_or_default();", ".unwrap_or_else(|| vec![0, 0, 0, 0, 0, 0, 0, 8]);"),
+    ("replay.rs", "a table of 2,960 octets cut", "TABLE_OCTETS: usize = 2960;", "TABLE_OCTETS: usize = 2958;"),
+]
+
 
 def cargo(folder, target, *more):
     environment = dict(os.environ, CARGO_TARGET_DIR=str(target))
@@ -149,46 +210,74 @@ def changed(folder, name, old, new):
     return True
 
 
-def try_mutant(folder, unchanged, mutant):
-    """Where the change was found by compare and by ends, and whether that is enough."""
-    name, _, old, new, *ends = mutant
+def build(folder, mutant):
+    """Builds the changed program; says what is wrong if it cannot."""
+    name, _, old, new, *_ = mutant
     shutil.rmtree(folder / "src")
     shutil.copytree(SECOND / "src", folder / "src")
     if not changed(folder, name, old, new):
-        return "DOES NOT APPLY", "", False
+        return "DOES NOT APPLY"
     built = cargo(folder, folder / "target")
-    if built.returncode != 0:
-        return "DOES NOT BUILD\n" + built.stderr, "", False
+    return "DOES NOT BUILD\n" + built.stderr if built.returncode != 0 else ""
+
+
+def try_mutant(folder, unchanged, mutant):
+    """Where the change was found by compare and by ends, and whether that is enough."""
+    ends = mutant[4:]
+    wrong = build(folder, mutant)
+    if wrong:
+        return wrong, "", False
     program = folder / "target" / "debug" / "second"
     found = subprocess.run([unchanged, "compare", program, SEEDS, CALLS, "places"], capture_output=True, text=True)
     where = re.match(r"seed (\d+) call (\d+) differs", found.stdout)
     run = subprocess.run([unchanged, "ends", program, "1", ENDS_CALLS], capture_output=True, text=True)
     by_ends = run.returncode != 0 and re.match(r"seed \d+ association \d+: ", run.stdout)
-    right = bool(where) and found.returncode != 0 and (bool(by_ends) or ends != ["ends"])
+    right = bool(where) and found.returncode != 0 and (bool(by_ends) or ends != ("ends",))
     place = f"seed {where[1]} call {where[2]}" if where else "NOT FOUND"
     return place, "found" if by_ends else "-", right
 
 
+def try_replay_mutant(folder, unchanged, mutant):
+    """Where the change was found by replays, and whether it was."""
+    wrong = build(folder, mutant)
+    if wrong:
+        return wrong, False
+    program = f"{folder / 'target' / 'debug' / 'second'} replay"
+    found = subprocess.run([unchanged, "replays", program, REPLAYS_SEED, REPLAYS_COUNT], capture_output=True, text=True)
+    where = re.match(r"seed (\d+) differs", found.stdout)
+    return f"seed {where[1]}" if where else "NOT FOUND", bool(where) and found.returncode == 1
+
+
 def main():
     word = sys.argv[1] if len(sys.argv) > 1 else ""
-    chosen = [mutant for mutant in MUTANTS if word in mutant[0] or word in mutant[1]]
-    if not chosen:
+    chosen, chosen_replays = (
+        [mutant for mutant in mutants if word in mutant[0] or word in mutant[1]] for mutants in (MUTANTS, REPLAY_MUTANTS)
+    )
+    if not chosen and not chosen_replays:
         sys.exit(f"mutants: no change has '{word}' in its place or description; give another word or none")
     built = cargo(SECOND, SECOND / "target", "--release")
     if built.returncode != 0:
         sys.exit("mutants: the second program does not build:\n" + built.stderr)
     unchanged = SECOND / "target" / "release" / "second"
     failed = 0
-    print(f"{'place':11} {'change':52} {'compare':22} ends")
     with tempfile.TemporaryDirectory() as temporary:
         folder = pathlib.Path(temporary)
         shutil.copy(SECOND / "Cargo.toml", folder)
         (folder / "src").mkdir()
+        if chosen:
+            print(f"{'place':11} {'change':52} {'compare':22} ends")
         for mutant in chosen:
             place, ends, right = try_mutant(folder, unchanged, mutant)
             failed += not right
             print(f"{mutant[0]:11} {mutant[1]:52} {place:22} {ends}{'' if right else '  FAILED'}", flush=True)
-    print(f"{len(chosen) - failed} of {len(chosen)} changes found")
+        if chosen_replays:
+            print(f"{'place':11} {'change':52} replays")
+        for mutant in chosen_replays:
+            place, right = try_replay_mutant(folder, unchanged, mutant)
+            failed += not right
+            print(f"{mutant[0]:11} {mutant[1]:52} {place}{'' if right else '  FAILED'}", flush=True)
+    count = len(chosen) + len(chosen_replays)
+    print(f"{count - failed} of {count} changes found")
     sys.exit(1 if failed else 0)
 
 

@@ -1,7 +1,5 @@
 //! Which rows of document 01 the generated scripts reach, and how often.
 
-use std::collections::HashMap;
-
 use crate::answer::{Answer, Problem, Refusal, REFUSALS};
 use crate::cases;
 use crate::faults;
@@ -9,6 +7,7 @@ use crate::frame;
 use crate::generate::{self, Group, Label, Seen};
 use crate::model::Model;
 use crate::observe::{accepted_kinds, expects, record_limits, rejected_id_is_live, sort, value_limits};
+use crate::rows::Rows;
 
 pub const SEEDS: u64 = 40;
 pub const CALLS: usize = 2000;
@@ -127,8 +126,7 @@ const PARTS: [&str; 4] = ["operations", "errors", "error pairs", "child pairs"];
 
 /// How often each row occurred.
 pub struct Coverage {
-    rows: Vec<(String, u64)>,
-    places: HashMap<String, usize>,
+    rows: Rows,
     calls: u64,
     accepted: u64,
     before: &'static str,
@@ -136,8 +134,7 @@ pub struct Coverage {
 
 impl Default for Coverage {
     fn default() -> Self {
-        let (rows, places) = (Vec::new(), HashMap::new());
-        let mut coverage = Coverage { rows, places, calls: 0, accepted: 0, before: "nothing" };
+        let mut coverage = Coverage { rows: Rows::default(), calls: 0, accepted: 0, before: "nothing" };
         for (call, refusals) in REFUSALS {
             refusals.iter().for_each(|number| coverage.row(format!("{call}: refused {number}")));
         }
@@ -170,15 +167,12 @@ impl Coverage {
 
     /// Adds a row that must occur.
     fn row(&mut self, row: String) {
-        self.places.insert(row.clone(), self.rows.len());
-        self.rows.push((row, 0));
+        self.rows.add(row);
     }
 
     /// Counts an occurrence, if there is such a row.
     fn count(&mut self, row: String) {
-        if let Some(&place) = self.places.get(&row) {
-            self.rows[place].1 += 1;
-        }
+        self.rows.count(&row);
     }
 
     fn note(&mut self, seen: &Seen<'_>) {
@@ -236,13 +230,8 @@ impl Coverage {
 
     /// The table of rows, and whether each occurred often enough.
     pub fn report(&self) -> (String, bool) {
-        let mut text = String::new();
-        let mut enough = self.accepted * 100 >= self.calls * LEAST_ACCEPTED_PERCENT;
-        for (row, times) in &self.rows {
-            let mark = if *times < LEAST { "  TOO FEW" } else { "" };
-            text += &format!("{times:7}  {row}{mark}\n");
-            enough &= *times >= LEAST;
-        }
+        let accepted = self.accepted * 100 >= self.calls * LEAST_ACCEPTED_PERCENT;
+        let (mut text, enough) = (self.rows.text(LEAST), accepted && self.rows.least() >= LEAST);
         let percent = self.accepted as f64 * 100.0 / self.calls.max(1) as f64;
         text += &format!("{} calls, {percent:.1} in 100 accepted, {} rows", self.calls, self.rows.len());
         text += &format!(", each needs {LEAST}: {}\n", if enough { "enough" } else { "NOT ENOUGH" });

@@ -2,6 +2,7 @@
 //! The calls themselves are made in `requests`, `arrivals`, `limits` and `oddities`.
 
 use crate::answer::Answer;
+use crate::days::{self, Logged};
 use crate::drive::{Drive, Step};
 use crate::frame::{self, Frame};
 use crate::model::Model;
@@ -57,6 +58,8 @@ pub struct Generator<'w> {
     /// Where each list of named cases is gone on with.
     pub(crate) turns: [usize; 3],
     watch: Option<&'w mut Watch<'w>>,
+    /// The entries of a day, if one is kept.
+    pub(crate) day: Option<Vec<Logged>>,
 }
 
 /// The script of a seed with so many calls.
@@ -84,7 +87,16 @@ impl<'w> Generator<'w> {
             trouble: 0,
             follows: false,
             watch,
+            day: None,
         }
+    }
+
+    /// A fresh end with one table, whose calls are kept as the entries of a day.
+    pub(crate) fn of_a_day(seed: u64, model: impl FnOnce(&mut Random) -> Model) -> Self {
+        let mut end = Generator { day: Some(Vec::new()), ..Generator::new(seed, usize::MAX, None) };
+        let model = model(&mut end.random);
+        end.set_model(model);
+        end
     }
 
     fn run(mut self) -> Vec<u8> {
@@ -114,6 +126,9 @@ impl<'w> Generator<'w> {
         let Step::Called(answer) = self.drive.step(&frame) else { return };
         self.written.clear();
         self.written.extend(self.drive.output(answer.written()));
+        if let Some(day) = &mut self.day {
+            days::note(day, &frame, &answer, &self.written);
+        }
         if let (Some(watch), Some(before)) = (&mut self.watch, before) {
             let (table, written, follows) = (&self.drive.table[..], &self.written[..], self.follows);
             watch(&Seen { table, before: &before, frame: &frame, answer: &answer, written, label, follows });

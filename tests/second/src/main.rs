@@ -1,17 +1,20 @@
 //! The command line.
 
+use std::ffi::OsString;
+use std::fs;
 use std::io::{self, BufReader, Write};
 use std::ops::RangeInclusive;
 use std::process::ExitCode;
 
 use second::coverage::{self, Coverage};
 use second::drive::{self, Drive};
-use second::{compare, ends, examples, generate, tables};
+use second::reached::{self, Reached};
+use second::{captures, compare, ends, examples, generate, replay, replays, samples, tables};
 
 const USAGE: &str = "second play [places]         play a script from standard input; the word play may be left out
 second repeat COUNT          play it, but make each call COUNT times from the state as it was, to measure it
 second generate SEED COUNT   write a script of COUNT calls
-second coverage              show what the generated scripts reach; fails if a row is too rare
+second coverage              show what the generated scripts and captures reach; fails if a row is too rare
 second examples PROGRAM [places]
                              play document 01's examples P1 to P12 on PROGRAM; fails if an answer differs
 second compare PROGRAM SEEDS COUNT [places]
@@ -23,15 +26,21 @@ second ends [PROGRAM] SEED COUNT
 second tables TABCHECK TABMAKE SEED COUNT
                              ask the two programs about COUNT tables, their texts, faults and extensions;
                              fails at the first answer that differs
+second replay TABLE CAPTURE  replay a day's capture on a fresh end; a file that cannot be read counts as empty
+second capture SEED TABLE CAPTURE
+                             write a table and a capture
+second replays PROGRAM SEED COUNT
+                             replay COUNT captures here and on PROGRAM, whose words may be a program and arguments;
+                             fails at the first line that differs or if a row was never met
+second samples FOLDER        write samples of captures, their tables and their lines
 
 With places each line ends with the place of the indicated value in the received octets; PROGRAM is then started with
 the argument places, else without arguments.
 ";
 
 fn main() -> ExitCode {
-    let arguments: Vec<String> = std::env::args().skip(1).collect();
-    let arguments: Vec<&str> = arguments.iter().map(String::as_str).collect();
-    match run(&arguments) {
+    let arguments: Vec<OsString> = std::env::args_os().skip(1).collect();
+    match command(&arguments) {
         Ok(true) => ExitCode::SUCCESS,
         Ok(false) => ExitCode::FAILURE,
         Err(message) => {
@@ -39,6 +48,17 @@ fn main() -> ExitCode {
             ExitCode::from(2)
         }
     }
+}
+
+/// Runs a command; the names of a replay's files are taken as they are.
+fn command(arguments: &[OsString]) -> Result<bool, String> {
+    if let Some((_, names @ ([] | [_] | [_, _]))) = arguments.split_first().filter(|(word, _)| *word == "replay") {
+        let name = |at: usize| names.get(at).map(OsString::as_os_str);
+        return write(replay::of_files(name(0), name(1)).as_bytes());
+    }
+    let arguments: Vec<_> = arguments.iter().map(|argument| argument.to_string_lossy()).collect();
+    let arguments: Vec<&str> = arguments.iter().map(|argument| &argument[..]).collect();
+    run(&arguments)
 }
 
 /// Runs a command; false if what it checks does not hold.
@@ -53,7 +73,11 @@ fn run(arguments: &[&str]) -> Result<bool, String> {
         (["generate", seed, count], false) => {
             write(&generate::script(number(seed, "SEED", 0)?, number(count, "COUNT", 0)? as usize))
         }
-        (["coverage"], false) => show(Coverage::of(coverage::SEEDS, coverage::CALLS).report()),
+        (["coverage"], false) => {
+            let scripts = show(Coverage::of(coverage::SEEDS, coverage::CALLS).report())?;
+            let captures = show(Reached::of(reached::CAPTURES).report(reached::LEAST))?;
+            Ok(scripts && captures)
+        }
         (["examples", program], _) => show(examples::run(program, places)?),
         (["compare", program, seeds, count], _) => {
             compare::compare(program, range(seeds)?, number(count, "COUNT", 1)? as usize, places)
@@ -63,6 +87,28 @@ fn run(arguments: &[&str]) -> Result<bool, String> {
         (["tables", tabcheck, tabmake, seed, count], false) => {
             let (seed, count) = (number(seed, "SEED", 0)?, number(count, "COUNT", tables::LEAST as u64)?);
             show(tables::run(tabcheck, tabmake, seed, count as usize)?)
+        }
+        _ => about_captures(arguments),
+    }
+}
+
+/// Runs a command about captures, whose last argument may be any word.
+fn about_captures(arguments: &[&str]) -> Result<bool, String> {
+    match arguments {
+        ["capture", seed, table, capture] => {
+            let drawn = captures::draw(number(seed, "SEED", 0)?);
+            store(table, &drawn.table)?;
+            store(capture, &drawn.capture)
+        }
+        ["replays", program, seed, count] => {
+            let (seed, count) = (number(seed, "SEED", 0)?, number(count, "COUNT", replays::LEAST as u64)?);
+            show(replays::run(program, seed, count as usize)?)
+        }
+        ["samples", folder] => {
+            for (name, octets) in samples::files() {
+                store(&format!("{folder}/{name}"), &octets)?;
+            }
+            Ok(true)
         }
         _ => Err(format!("'{}' with {} more arguments is no command", arguments[0], arguments.len() - 1)),
     }
@@ -81,6 +127,11 @@ fn two_ends(program: Option<&str>, seed: &str, count: &str) -> Result<bool, Stri
 /// Writes a report and hands on whether it is right.
 fn show((report, right): (String, bool)) -> Result<bool, String> {
     write(report.as_bytes()).map(|_| right)
+}
+
+/// Writes a file.
+fn store(name: &str, octets: &[u8]) -> Result<bool, String> {
+    fs::write(name, octets).map(|()| true).map_err(|error| format!("{name}: {error}"))
 }
 
 fn write(octets: &[u8]) -> Result<bool, String> {

@@ -1,7 +1,9 @@
 //! A table, a state and a frame decoded for a reader.
 
+use crate::capture::{Kind, Reader};
 use crate::frame::{self, Frame};
 use crate::octets;
+use crate::replay::End;
 use crate::state::{Side, State};
 use crate::table::{Rule, Table};
 
@@ -67,6 +69,36 @@ pub fn frame(frame: &Frame<'_>) -> String {
     };
     let mut text = format!("{what}, {lent} octets lent, {} given\n", payload.len());
     elements(&mut text, payload, 1);
+    text
+}
+
+/// A capture's entries around a place, and the state before it.
+pub fn capture(table: &[u8], capture: &[u8], place: usize) -> String {
+    let mut text = format!("capture, {} octets\n", capture.len());
+    let reader = match Reader::new(capture) {
+        Ok(reader) => reader,
+        Err(rule) => return text + &format!("  malformed: {rule:?}\n  {}\n", hex(&capture[..capture.len().min(256)])),
+    };
+    let (mut end, count, mut right) = (End::fresh(table), reader.entries(), true);
+    let place = place.min(count);
+    for (number, entry) in reader.enumerate().take(place + 3) {
+        if number == place {
+            text += &state(&end.state);
+        }
+        if number + 3 >= place {
+            let kind = match entry.kind {
+                Kind::Received => "received",
+                Kind::Sent => "sent",
+                Kind::Forget => "forget",
+            };
+            text += &format!("entry {number} of {count}, {kind}, {} octets\n", entry.octets.len());
+            match entry.kind {
+                Kind::Forget => text += &format!("  {}\n", hex(entry.octets)),
+                _ => elements(&mut text, &entry.octets[..entry.octets.len().min(256)], 1),
+            }
+        }
+        right = right && end.play(entry).is_ok();
+    }
     text
 }
 

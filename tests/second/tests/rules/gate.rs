@@ -106,7 +106,7 @@ fn extension_reads_pairs_by_codes() {
 
 #[test]
 fn the_command_line_says_what_is_wrong() {
-    let cases: [(&[&str], &str); 10] = [
+    let cases: [(&[&str], &str); 14] = [
         (&["dance"], "'dance' with 0 more arguments is no command"),
         (&["generate", "x", "5"], "SEED is 'x', but must be a number from 0 up"),
         (&["ends", "1"], "'ends' with 1 more arguments is no command"),
@@ -116,6 +116,10 @@ fn the_command_line_says_what_is_wrong() {
         (&["ends", "true", "1", "0"], "COUNT is '0', but must be a number from 1 up"),
         (&["tables", "true", "true", "1", "99"], "COUNT is '99', but must be a number from 100 up"),
         (&["tables", "true", "./none", "1", "100"], "./none does not start"),
+        (&["replay", "a", "b", "c"], "'replay' with 3 more arguments is no command"),
+        (&["replays", "true", "1", "399"], "COUNT is '399', but must be a number from 400 up"),
+        (&["capture", "x", "a", "b"], "SEED is 'x', but must be a number from 0 up"),
+        (&["samples", "./none"], "./none/no-entries.capture: "),
         (&["compare", "no such program", "1", "10"], "give the path of a program of the drive protocol"),
     ];
     for (arguments, message) in cases {

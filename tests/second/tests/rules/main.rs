@@ -1,10 +1,12 @@
 //! The rules of document 01 and their readings as cases, and short runs of the generator's checks.
 
+mod captures;
 mod coding;
 mod common;
 mod examples;
 mod gate;
 mod lines;
 mod readings;
+mod replays;
 mod rules;
 mod tables;

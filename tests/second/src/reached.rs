@@ -1,0 +1,158 @@
+//! What drawn captures reach: each answer, each way to it, and each thing done to a day.
+
+use std::collections::BTreeSet;
+
+use crate::answer::{Indication, Problem};
+use crate::apdu::{Apdu, Invoke};
+use crate::capture::{self, Entry, Kind};
+use crate::captures::{self, Drawn};
+use crate::changed::CHANGES;
+use crate::damaged::DAMAGES;
+use crate::engine::Invocation;
+use crate::replay::{self, Step, Verdict};
+use crate::rows::Rows;
+use crate::slips::SLIPS;
+use crate::state::State;
+use crate::ways::{self, DIFFERS, MALFORMED, TABLE_FIRST};
+
+/// How many captures `coverage` draws, and how often each row must occur in them.
+pub const CAPTURES: u64 = 10_000;
+pub const LEAST: u64 = 50;
+
+/// What a capture that agrees can have.
+const AGREES: [&str; 28] = [
+    "no entries",
+    "one entry",
+    "1,000 entries",
+    "60,000 octets",
+    "a received entry of 4,096 octets",
+    "a sent entry of 4,096 octets",
+    "an entry of one octet",
+    "a Reject awaited and found",
+    "a Reject found that a user could have asked for",
+    "a 17 passed over",
+    "an invoke received",
+    "a linked invoke received",
+    "a result received",
+    "an absent result received",
+    "an error received",
+    "a user's Reject received",
+    "a provider's Reject received",
+    "an invoke sent",
+    "a linked invoke sent",
+    "a result sent",
+    "an absent result sent",
+    "an error sent",
+    "an error with a value sent",
+    "a user reject sent",
+    "an own record forgotten",
+    "a peer record forgotten",
+    "an own id used again",
+    "an entry behind a refused APDU's Reject",
+];
+
+/// What captures reached, as rows.
+pub struct Reached {
+    pub rows: Rows,
+    pub captures: u64,
+}
+
+impl Default for Reached {
+    fn default() -> Self {
+        let mut rows = Rows::default();
+        let names = captures::PLAIN.iter().chain(SLIPS.iter().map(|(name, ..)| name));
+        let names = names.chain(CHANGES.iter().map(|(name, _)| name)).chain(DAMAGES.iter().map(|(name, ..)| name));
+        let names = names.chain(captures::TABLES.iter().map(|(name, _)| name));
+        names.for_each(|name| rows.add(format!("capture: {name}")));
+        AGREES.iter().for_each(|row| rows.add(format!("agrees: {row}")));
+        DIFFERS.iter().for_each(|row| rows.add(format!("differs: {row}")));
+        TABLE_FIRST.iter().for_each(|row| rows.add(row.to_string()));
+        MALFORMED.iter().for_each(|row| rows.add(format!("refused 20: {row}")));
+        Reached { rows, captures: 0 }
+    }
+}
+
+impl Reached {
+    /// What the captures of so many seeds reach.
+    pub fn of(captures: u64) -> Self {
+        let mut reached = Reached::default();
+        (0..captures).for_each(|seed| drop(reached.note(&captures::draw(seed))));
+        reached
+    }
+
+    /// Counts what a capture reaches; gives its line.
+    pub fn note(&mut self, drawn: &Drawn) -> String {
+        let mut things = BTreeSet::new();
+        let (mut ids, mut rejected) = (BTreeSet::new(), false);
+        let verdict = replay::watch(&drawn.table, &drawn.capture, |entry, step| {
+            things.extend(thing(&step).into_iter().chain(limit(entry)));
+            if let Step::Sent(Apdu::Invoke(Invoke { id, .. })) = step {
+                things.extend((!ids.insert(id)).then_some("an own id used again"));
+            }
+            things.extend(rejected.then_some("an entry behind a refused APDU's Reject"));
+            rejected |= matches!(step, Step::RejectFound);
+        });
+        let way = ways::name(&verdict, &drawn.capture);
+        self.captures += 1;
+        if drawn.way.is_none_or(|wanted| wanted == way) {
+            self.rows.count(&format!("capture: {}", drawn.name));
+        }
+        match verdict {
+            Verdict::Agrees { entries } => {
+                things.extend((entries == 0).then_some("no entries"));
+                things.extend((entries == 1).then_some("one entry"));
+                things.extend((entries == capture::ENTRIES).then_some("1,000 entries"));
+                things.extend((drawn.capture.len() == capture::OCTETS).then_some("60,000 octets"));
+                things.iter().for_each(|thing| self.rows.count(&format!("agrees: {thing}")));
+            }
+            Verdict::Differs { .. } => self.rows.count(&format!("differs: {way}")),
+            Verdict::Malformed(_) => self.rows.count(&format!("refused 20: {way}")),
+            Verdict::InvalidTable => self.rows.count(&way),
+        }
+        verdict.line()
+    }
+
+    /// The table of rows, and whether each occurred often enough.
+    pub fn report(&self, needed: u64) -> (String, bool) {
+        let enough = self.rows.least() >= needed;
+        let said = if enough { "enough" } else { "NOT ENOUGH" };
+        let counted = format!("{} captures, {} rows, each needs {needed}", self.captures, self.rows.len());
+        (format!("{}{counted}: {said}\n", self.rows.text(needed)), enough)
+    }
+}
+
+/// What an entry is that does not differ.
+fn thing(step: &Step<'_>) -> Option<&'static str> {
+    Some(match step {
+        Step::Indicated(Indication::Invoke { linked: Some(_), .. }) => "a linked invoke received",
+        Step::Indicated(Indication::Invoke { .. }) => "an invoke received",
+        Step::Indicated(Indication::Result { .. }) => "a result received",
+        Step::Indicated(Indication::AbsentResult { .. }) => "an absent result received",
+        Step::Indicated(Indication::Error { .. }) => "an error received",
+        Step::Indicated(Indication::UserReject { .. }) => "a user's Reject received",
+        Step::Indicated(Indication::ProviderReject { .. }) => "a provider's Reject received",
+        Step::Rejected(Problem::Invoke(2..=4)) => "a Reject found that a user could have asked for",
+        Step::Rejected(_) => return None,
+        Step::PassedOver => "a 17 passed over",
+        Step::RejectFound => "a Reject awaited and found",
+        Step::Sent(Apdu::Invoke(Invoke { linked: Some(_), .. })) => "a linked invoke sent",
+        Step::Sent(Apdu::Invoke(_)) => "an invoke sent",
+        Step::Sent(Apdu::Result { returned: Some(_), .. }) => "a result sent",
+        Step::Sent(Apdu::Result { .. }) => "an absent result sent",
+        Step::Sent(Apdu::Error { value: Some(_), .. }) => "an error with a value sent",
+        Step::Sent(Apdu::Error { .. }) => "an error sent",
+        Step::Sent(Apdu::Reject { .. }) => "a user reject sent",
+        Step::Forgotten(Invocation::Own(_)) => "an own record forgotten",
+        Step::Forgotten(Invocation::Peer(_)) => "a peer record forgotten",
+    })
+}
+
+/// The limit that an entry is at.
+fn limit(entry: Entry<'_>) -> Option<&'static str> {
+    match (entry.kind, entry.octets.len()) {
+        (_, 1) => Some("an entry of one octet"),
+        (Kind::Received, State::OCTETS) => Some("a received entry of 4,096 octets"),
+        (Kind::Sent, State::OCTETS) => Some("a sent entry of 4,096 octets"),
+        _ => None,
+    }
+}

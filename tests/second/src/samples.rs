@@ -1,0 +1,149 @@
+//! Stored samples: a table, a capture and the line for each, small ones wherever the rule allows.
+
+use crate::capture::{ENTRIES, OCTETS};
+use crate::days::{self, Logged, FORGET, RECEIVED, SENT};
+use crate::state::State;
+
+/// Operations 1 to 5 of classes 1 to 5, errors 1 and 2; 1 and 3 are children of 2.
+const TABLE: &str = "0005 0010 0002 0038 0004 0044 0002 0054
+    00000001 01020200 00000002 02020202 00000003 03000000 00000004 04000400 00000005 05000000
+    00000001 0000 00000002 0401 0000 0000 0001 0000 0001 0001 0002 0000 0001 0000 0001 0002";
+
+/// Days by name: their entries, each with its kind in front, and the line.
+const DAYS: &[(&str, &str, &str)] = &[
+    ("no-entries", "", "entries 0 agree"),
+    (
+        "every-kind-of-entry",
+        "sent A109020105020102020107, received A20B020105300602010202 0100, received A109020106020102020107,
+         sent A109020105800106020103, received A306020105020101, sent A20B0201063006020102020109,
+         received A106020107020103, sent A306020107020101, received A106020108020104, sent A406020108810103,
+         received A106020109020103, forget 0100000009, received A400, received A20302010A, sent A40602010A820100",
+        "entries 15 agree",
+    ),
+    ("reject-like-a-user-reject", "received A106020105020102, sent A406020105810102", "entries 2 agree"),
+    ("request-refused", "received A400, sent A106020105020163", "entry 1 differs"),
+    ("id-in-use", "sent A106020105020104, sent A106020105020103", "entry 1 differs"),
+    ("linked-to-an-own-invocation", "sent A109020105020102020107, sent A109020106800105020103", "entry 1 differs"),
+    ("result-of-no-invocation", "sent A20B0201053006020102020107", "entry 0 differs"),
+    ("error-not-paired", "received A106020105020103, sent A306020105020102", "entry 1 differs"),
+    ("user-reject-of-no-invocation", "sent A406020105810102", "entry 0 differs"),
+    ("forget-refused", "forget 0000000005", "entry 0 differs"),
+    ("forget-of-an-awaited-answer", "received A109020105020102020107, forget 0100000005", "entry 1 differs"),
+    ("another-side", "sent A106020105020104, forget 0200000005", "entry 1 differs"),
+    ("other-octets-long-length", "sent A18106020105020104", "entry 0 differs"),
+    (
+        "other-octets-code-of-a-result",
+        "received A109020105020102020107, sent A20B0201053006020101020107",
+        "entry 1 differs",
+    ),
+    ("fits-no-call-octets", "sent A106020105020204", "entry 0 differs"),
+    ("fits-no-call-first-octet", "sent A506020105020104", "entry 0 differs"),
+    ("fits-no-call-fields", "sent A103020105", "entry 0 differs"),
+    ("fits-no-call-code-06", "sent A106020105060104", "entry 0 differs"),
+    ("fits-no-call-code-of-five-octets", "sent A10A02010502050100000004", "entry 0 differs"),
+    ("fits-no-call-reject-80", "received A106020105020103, sent A406020105800101", "entry 1 differs"),
+    ("fits-no-call-reject-05-00", "sent A4050500800102", "entry 0 differs"),
+    ("fits-no-call-reject-82", "received A106020105020103, sent A406020105820100", "entry 1 differs"),
+    ("fits-no-call-reject-83", "received A106020105020103, sent A406020105830100", "entry 1 differs"),
+    ("fits-no-call-problem-1", "received A106020105020103, sent A406020105810101", "entry 1 differs"),
+    ("reject-missing-at-end", "received A500", "entry 1 differs"),
+    ("reject-not-sent", "received A500, received A4050500800100", "entry 1 differs"),
+    ("reject-with-other-octets", "received A500, sent A4050500800102", "entry 1 differs"),
+    ("reject-twice", "received A500, sent A4050500800100, sent A4050500800100", "entry 2 differs"),
+];
+
+/// Whole captures that are malformed.
+const MALFORMED: &[(&str, &str)] = &[
+    ("no-octets", ""),
+    ("index-cut", "00000001 00000010 00000002 000000"),
+    ("data-cut", "00000001 00000010 00000002 00000010 A4"),
+    ("octets-behind", "00000001 00000010 00000002 00000010 A400 00"),
+    ("count-4294967295", "FFFFFFFF 00000000"),
+    ("data-offset", "00000001 00000011 00000002 00000010 A400"),
+    ("data-offset-without-entries", "00000000 00000000"),
+    ("kind-3", "00000001 00000010 03000002 00000010 A400"),
+    ("zero-octet-1", "00000001 00000010 00010002 00000010 A400"),
+    ("length-0", "00000001 00000010 00000000 00000010"),
+    ("forget-of-4-octets", "00000001 00000010 02000004 00000010 00000000"),
+    ("forget-of-6-octets", "00000001 00000010 02000006 00000010 000000000500"),
+    ("gap", "00000002 00000018 00000002 00000018 00000002 0000001B A400 00 A400"),
+    ("overlap", "00000002 00000018 00000002 00000018 00000002 00000019 A4A400"),
+    ("malformed-behind-an-entry-that-differs", "00000002 00000018 01000001 00000018 03000001 00000019 00A4"),
+];
+
+/// A capture by name, made when it is asked for, and its line.
+type Long = (&'static str, fn() -> Vec<u8>, &'static str);
+
+/// Samples that cannot be small: captures at both sides of a limit.
+const LONG: &[Long] = &[
+    ("length-4096", || passed_over(1, State::OCTETS), "entries 1 agree"),
+    ("length-4097", || passed_over(1, State::OCTETS + 1), "refused 20"),
+    ("count-1000", || passed_over(ENTRIES, 1), "entries 1000 agree"),
+    ("count-1001", || passed_over(ENTRIES + 1, 1), "refused 20"),
+    ("octets-60000", || filled(OCTETS), "entries 15 agree"),
+    ("octets-60001", || filled(OCTETS + 1), "refused 20"),
+];
+
+/// Tables that are not valid, with their captures.
+const TABLES: &[(&str, &str, &str)] = &[
+    ("table-not-valid", "0000 0010 0000 0010 0000 0010 0000 0011", "00000000 00000008"),
+    ("table-before-capture", "0000 0010 0000 0010 0000 0010 0000 0011", "00000000 00000000"),
+];
+
+/// A sample: its name, table, capture and line.
+pub struct Sample {
+    pub name: &'static str,
+    pub table: Vec<u8>,
+    pub capture: Vec<u8>,
+    pub line: String,
+}
+
+pub fn samples() -> Vec<Sample> {
+    let sample =
+        |name, table: &str, capture, line| Sample { name, table: octets(table), capture, line: format!("{line}\n") };
+    let days = DAYS.iter().map(|(name, day, line)| sample(name, TABLE, days::capture(&entries(day)), *line));
+    let malformed = MALFORMED.iter().map(|(name, capture)| sample(name, TABLE, octets(capture), "refused 20"));
+    let long = LONG.iter().map(|(name, capture, line)| sample(name, TABLE, capture(), *line));
+    let tables = TABLES.iter().map(|(name, table, capture)| sample(name, table, octets(capture), "refused 1"));
+    days.chain(malformed).chain(long).chain(tables).collect()
+}
+
+/// The names of the samples' files with their octets. A sample without a table of its own has that of `right.table`.
+pub fn files() -> Vec<(String, Vec<u8>)> {
+    let right = octets(TABLE);
+    let files = samples().into_iter().flat_map(|sample| {
+        let own = (sample.table != right).then_some(("table", sample.table));
+        let parts = [("capture", sample.capture), ("line", sample.line.into_bytes())].into_iter().chain(own);
+        parts.map(move |(part, octets)| (format!("{}.{part}", sample.name), octets))
+    });
+    files.chain([("right.table".to_string(), octets(TABLE))]).collect()
+}
+
+fn octets(text: &str) -> Vec<u8> {
+    let digits: Vec<u32> = text.chars().filter_map(|digit| digit.to_digit(16)).collect();
+    digits.chunks(2).map(|pair| pair.iter().fold(0, |sum, digit| sum << 4 | *digit) as u8).collect()
+}
+
+/// Entries from their kinds and octets in words.
+fn entries(day: &str) -> Vec<Logged> {
+    let entries = day.split(',').filter_map(|entry| entry.trim().split_once(' '));
+    let entries = entries.map(|(kind, text)| match kind {
+        "received" => Logged::new(RECEIVED, &octets(text)),
+        "sent" => Logged::new(SENT, &octets(text)),
+        _ => Logged::new(FORGET, &octets(text)),
+    });
+    entries.collect()
+}
+
+/// So many received Rejects of a length that are passed over.
+fn passed_over(count: usize, length: usize) -> Vec<u8> {
+    let mut octets = vec![0; length];
+    octets[0] = 0xA4;
+    days::capture(&vec![Logged::new(RECEIVED, &octets); count])
+}
+
+fn filled(count: usize) -> Vec<u8> {
+    let mut entries = Vec::new();
+    days::fill(&mut entries, count);
+    days::capture(&entries)
+}
