@@ -1,8 +1,8 @@
 # make demo: proves the library and runs a kiosk and a controller; rt try demo runs them in three seconds, with nothing proved.
 # make test: proves every crate, tries the must-fail edits, runs the programs and tries each compiled in three ways and on the command line,
 #   holds README's code to that of example, tests the second program (meanwhile, where a core is idle), then plays P1 to P12, scripts of calls and both ends of an association on
-#   drive, and holds tabcheck and tabmake to it over generated tables.
-# make bench: measures the calls beside the second program's; it also needs valgrind and python3.
+#   drive, and holds tabcheck and tabmake to it over generated tables, and replay over generated captures.
+# make bench: measures the calls and a replay beside the second program's; it also needs valgrind and python3.
 # The last line of make test is rt ci's 'N passed, 0 failed'; on a failure it is 'make test: failed'.
 SHELL := bash
 .SHELLFLAGS := -euo pipefail -c
@@ -36,7 +36,7 @@ test:
 	rt ci 2>&1 | tee "$$log"
 	last=$$(tail -n 1 "$$log")
 	[[ $$last =~ ^[0-9]+\ passed,\ 0\ failed$$ ]] || { echo "make test: rt ci did not end in 'N passed, 0 failed'"; exit 1; }
-	printf '%s\n' drive demo tabcheck tabmake explain example | xargs -P 2 -n 1 rt try
+	printf '%s\n' drive demo tabcheck tabmake explain example replay | xargs -P 2 -n 1 rt try
 	tests/readme
 	tests/programs
 	wait $$tested || { cat "$$second"; echo "make test: the second program's own tests failed"; exit 1; }
@@ -45,6 +45,7 @@ test:
 	tests/second/target/release/second compare target/bin/drive 40 2000 places
 	tests/second/target/release/second ends target/bin/drive 1 20000
 	tests/second/target/release/second tables target/bin/tabcheck target/bin/tabmake 1 600
+	tests/second/target/release/second replays target/bin/replay 1 600
 	echo "$$last"
 
 bench:
@@ -52,7 +53,7 @@ bench:
 	$(kit)
 	need cargo "install Rust; no crate is fetched"
 	need valgrind "it counts the instructions"
-	echo "make bench: drive is proved before it is built, some four minutes on 2 cores the first time."
-	rt check drive | grep '^rt: .* proved'
+	echo "make bench: drive and replay are proved before they are built, some six minutes on 2 cores the first time."
+	rt check drive replay | grep '^rt: .* proved'
 	cargo build --release --offline --quiet --manifest-path tests/second/Cargo.toml
 	python3 tests/bench/bench.py

@@ -1,9 +1,10 @@
 #!/usr/bin/env python3
-"""Measures the six calls: the same call by drive and by the second program, beside each other.
+"""Measures the six calls and a replay: the same by drive or replay and by the second program, beside each other.
 
-Each case is a script of one call with its table and state. Both programs make that call N times from the same state, once
+Each case of a call is a script of one call with its table and state. Both programs make that call N times from the same state, once
 for a small and once for a larger N; the difference, divided, is one call's cost, so that starting up and reading the script
-do not count. Instructions are counted by valgrind's callgrind, so that each run gives the same.
+do not count. A replay costs what it takes beyond that of a capture with no entries.
+Instructions are counted by valgrind's callgrind, so that each run gives the same.
 Prints a table and writes docs/bench.svg. Where asn1c is installed, its bare decode of P2 is counted beside our whole receive.
 """
 
@@ -19,7 +20,8 @@ import tempfile
 HERE = pathlib.Path(__file__).resolve().parent
 TOP = HERE.parent.parent
 DRIVE = str(TOP / "target/bin/drive")
-SECOND = [str(TOP / "tests/second/target/release/second"), "repeat"]
+REPLAY = str(TOP / "target/bin/replay")
+SECOND = str(TOP / "tests/second/target/release/second")
 TABLE, STATE, RECEIVE, INVOKE, RESULT, ERROR = range(6)
 
 
@@ -69,6 +71,7 @@ T = bytes.fromhex("00010010000100180001001E000000220000000702020200000000010000"
 WIDE = table([(7, 2, 0x30, 0x30, 3)])
 FULL = table([(i - 32, 2, 2, 2, 3) for i in range(64)], [(i - 32, 2, 1) for i in range(64)],
              [(i // 4, i % 4 * 16) for i in range(256)], [(i // 4, i % 4 * 16) for i in range(256)])
+KIOSK = table([(7, 2, 2, 2, 2)], [(1, 0, 0)], [(0, 0)])
 P2 = bytes.fromhex("A20B020105300602010702 0100".replace(" ", ""))
 P3 = bytes.fromhex("A306020105020101")
 P4 = bytes.fromhex("A203020105")
@@ -93,24 +96,69 @@ def cases():
     yield case("32 + 32 records, full table: receive a result", FULL, state(own=records, peer=records), frame(RECEIVE, answer, 11))
 
 
-def instructions(program, script, times):
+def capture(entries):
+    index, data, start = b"", b"", 8 + 8 * len(entries)
+    for kind, octets in entries:
+        index += struct.pack(">BBHI", kind, 0, len(octets), start + len(data))
+        data += octets
+    return struct.pack(">II", len(entries), start) + index + data
+
+
+def day(count):
+    """So many entries, ten after ten: a reading, an error, an answer that comes after the forget and gets a Reject, no value."""
+    def number(value):
+        return element(2, value.to_bytes(value.bit_length() // 8 + 1, "big"))
+    entries = []
+    for first in range(1, 2 * count, 20):
+        ids = [number(first + place) for place in range(4)]
+        asked = [(1, element(0xA1, each + number(7) + number(3))) for each in ids]
+        result = [(0, element(0xA2, each + element(0x30, number(7) + number(12)))) for each in ids]
+        entries += [asked[0], result[0], asked[1], (0, element(0xA3, ids[1] + number(1))),
+                    asked[2], (2, struct.pack(">Bi", 0, first + 2)), result[2], (1, element(0xA4, ids[2] + b"\x82\x01\x00")),
+                    asked[3], (0, element(0xA2, ids[3]))]
+    return capture(entries[:count])
+
+
+def instructions(command, script=b""):
     with tempfile.TemporaryDirectory() as folder:
-        command = ["valgrind", "--tool=callgrind", f"--callgrind-out-file={folder}/out", *program, str(times)]
-        done = subprocess.run(command, input=script, capture_output=True, check=True)
+        counted = ["valgrind", "--tool=callgrind", f"--callgrind-out-file={folder}/out", *command]
+        done = subprocess.run(counted, input=script, capture_output=True, check=True)
         return int(re.search(rb"Collected : (\d+)", done.stderr).group(1)), done.stdout
 
 
-def cost(program, script):
+def call_cost(program, script):
     """Instructions of one call, and the line that it answered."""
-    (few, line), (many, again) = instructions(program, script, 100), instructions(program, script, 1100)
+    (few, line), (many, again) = instructions([*program, "100"], script), instructions([*program, "1100"], script)
     assert line == again, "another answer the second time"
     return (many - few) / 1000, line
 
 
-def row(drive, name, script):
-    (ours, line), (theirs, their_line) = cost([drive], script), cost(SECOND, script)
+def replay_cost(program, octets):
+    """Instructions of a replay beyond one of no entries, and the line that it answered."""
+    with tempfile.TemporaryDirectory() as folder:
+        names = [str(pathlib.Path(folder) / name) for name in ("table", "none", "day")]
+        for name, contents in zip(names, (KIOSK, capture([]), octets)):
+            pathlib.Path(name).write_bytes(contents)
+        (none, _), (all_of_it, line) = instructions([*program, names[0], names[1]]), instructions([*program, names[0], names[2]])
+        assert line.endswith(b" agree\n"), f"the day does not agree: {line}"
+        return all_of_it - none, line
+
+
+def row(name, cost, ours, theirs, given):
+    (our_cost, line), (their_cost, their_line) = cost(ours, given), cost(theirs, given)
     assert line == their_line, f"{name}: the two answer differently:\n{line}{their_line}"
-    return name, ours, theirs, ours / theirs
+    return name, our_cost, their_cost, our_cost / their_cost
+
+
+def rows_of(word, drive, replay):
+    """The rows whose name contains a word."""
+    for name, script in cases():
+        if word in name:
+            yield row(name, call_cost, [drive], [SECOND, "repeat"], script)
+    for count in (250, 500, 1000):
+        name = f"replay {count:,} entries"
+        if word in name:
+            yield row(name, replay_cost, [replay], [SECOND, "replay"], day(count))
 
 
 def asn1c():
@@ -123,7 +171,7 @@ def asn1c():
         sources = sorted(str(path) for path in pathlib.Path(folder).glob("*.c"))
         program = [f"{folder}/decode"]
         subprocess.run(["gcc", "-O2", "-w", f"-I{folder}", "-o", *program, *sources, str(HERE / "decode.c")], check=True)
-        return (instructions(program, b"", 1100)[0] - instructions(program, b"", 100)[0]) / 1000
+        return (instructions([*program, "1100"])[0] - instructions([*program, "100"])[0]) / 1000
 
 
 def picture(rows):
@@ -149,22 +197,22 @@ def arguments():
     parser = argparse.ArgumentParser(description=__doc__, formatter_class=argparse.RawDescriptionHelpFormatter)
     parser.add_argument("word", nargs="?", default="", help="only cases whose name contains it; no picture is written then")
     parser.add_argument("--drive", default=DRIVE, metavar="PATH", help="the drive to measure in place of target/bin/drive")
+    parser.add_argument("--replay", default=REPLAY, metavar="PATH", help="the replay to measure in place of target/bin/replay")
     return parser.parse_args()
 
 
 def main():
     given = arguments()
-    for program in (given.drive, SECOND[0]):
+    for program in (given.drive, given.replay, SECOND):
         if not pathlib.Path(program).exists():
             sys.exit(f"bench: {program} is missing; make bench builds it")
     if not shutil.which("valgrind"):
         sys.exit("bench: valgrind is missing; it counts the instructions")
     print("| call | instructions | second's | ratio |\n|---|---|---|---|", flush=True)
     rows = []
-    for name, script in cases():
-        if given.word in name:
-            rows.append(row(given.drive, name, script))
-            print("| {} | {:,.0f} | {:,.0f} | {:.2f} |".format(*rows[-1]), flush=True)
+    for measured in rows_of(given.word, given.drive, given.replay):
+        rows.append(measured)
+        print("| {} | {:,.0f} | {:,.0f} | {:.2f} |".format(*measured), flush=True)
     bare = asn1c()
     for name, ours, *_ in rows:
         if bare and name.startswith("P2"):
