@@ -24,6 +24,11 @@ pub record CodedValue : Type 0 where
   pub code : CodeField
   pub value : Part
 
+-- the value beside a result's code, if there is one
+abbrev pub bodyValue : Option CodedValue → Option Part
+bodyValue none = none
+bodyValue (some b) = some (b .value)
+
 -- ids are 32-bit patterns; a value is a part of the lent octets; no value and no linked id are none
 pub data Apdu : Type 0 where
   -- not well formed: general 2

@@ -23,8 +23,8 @@ ghost use mathlib.Core.List.{List};
 ghost use Prim.Native.Nat.{ℕ};
 ghost use Rattle.base.specs.Octets.{part};
 ghost use Rattle.apdu.specs.Field.{partOf, fields};
-ghost use Rattle.apdu.specs.Parse.{codedOf, linkedOf, invokeBehind, resultWith, resultBehind, errorBehind, behindId, withId, byKind, parse};
-ghost use Rattle.apdu.specs.Reading.{readParsed};
+ghost use Rattle.apdu.specs.Parse.{bodyValue, codedOf, linkedOf, invokeBehind, resultWith, resultBehind, errorBehind, behindId, withId, byKind, parse};
+ghost use Rattle.apdu.specs.Reading.{readValue, readBody, readParsed};
 ghost use Rattle.apdu.specs.Steps.{readCoded};
 
 // A1, behind the id.
@@ -164,6 +164,16 @@ pub fn parse(apdu: &[u8]) -> Parsed
             }
             Parsed::BadlyStructured
         }
+    }
+}
+
+// The value beside a result's code, if there is one.
+pub fn body_value(body: Body) -> Value
+    ensures { λ r. ⌜ ((x : List ℕ) → readValue x r ≡ bodyValue (readBody x body)) ⌝ }
+{
+    match body {
+        Body::Absent => Value::Absent,
+        Body::Of { code: _, value } => Value::At(value),
     }
 }
 

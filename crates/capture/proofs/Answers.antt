@@ -9,7 +9,7 @@ use lib.ListN.{length}
 use lib.Dec.{eqb, leb}
 use Rattle.base.proofs.Tests.{and-false-left, and-false-right}
 use Rattle.capture.specs.declared.Kind.{Kind}
-use Rattle.capture.specs.declared.Kind.the-variants.{Received, Sent, Forget, Nothing}
+use Rattle.capture.specs.declared.Kind.the-variants.{Nothing}
 use Rattle.base.specs.Count.{every}
 use Rattle.capture.specs.Format.{count, dataOffset, place, kind, zeroOctet, size, offset, kindRight, zeroRight, sizeFits, sizeRight, entryRight, headed, dataEnd, placed, endToEnd, valid}
 use Rattle.capture.specs.Entry.{kindOf, entryAt, following}
@@ -36,18 +36,11 @@ module _ (t : List ℕ) (i : ℕ) where
 
 -- ---- a kind's number
 
-module _ (n : ℕ) where
-  pub is-received : n ≡ 0 → Received ≡ kindOf n
-  is-received e = rw e refl
+pub same-kind : (m n : ℕ) → n ≡ m → kindOf m ≡ kindOf n
+same-kind m n e = rw e refl
 
-  pub is-sent : n ≡ 1 → Sent ≡ kindOf n
-  is-sent e = rw e refl
-
-  pub is-forget : n ≡ 2 → Forget ≡ kindOf n
-  is-forget e = rw e refl
-
-  pub is-nothing : (n ≡ 0 → ⊥) → (n ≡ 1 → ⊥) → (n ≡ 2 → ⊥) → Nothing ≡ kindOf n
-  is-nothing a b c = simp (ne-eqb _ _ a, ne-eqb _ _ b, ne-eqb _ _ c)
+pub no-kind : (n : ℕ) → (n ≡ 0 → ⊥) → (n ≡ 1 → ⊥) → (n ≡ 2 → ⊥) → Nothing ≡ kindOf n
+no-kind n a b c = simp (ne-eqb _ _ a, ne-eqb _ _ b, ne-eqb _ _ c)
 
 -- ---- the header
 

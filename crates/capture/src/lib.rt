@@ -18,9 +18,10 @@ use read::size;
 use validity::entries_end;
 use validity::is_headed;
 
-// The most octets and the most entries of a capture.
+// The most octets of a capture.
 pub const MOST_OCTETS: usize = 60_000;
 
+// The most entries of a capture.
 pub const MOST_ENTRIES: usize = 1_000;
 
 // What an entry is. Nothing: there is no such entry, or its kind is none of these.

@@ -3,9 +3,9 @@ ghost use mathlib.Core.Path.{_≡_};
 ghost use lib.ListN.{length};
 use crate::output::is_spoiled;
 use crate::side::side_line;
-use apdu::Body;
 use apdu::Span;
 use apdu::Value;
+use apdu::parse::body_value;
 use libc::STDOUT_FILENO;
 use protocol::Indication;
 use protocol::Reception;
@@ -48,13 +48,6 @@ fn output_line(line: &mut [u8], at: usize, lent: &[u8], written: usize) -> usize
         return behind_line(line, b, &lent[written..]);
     }
     a
-}
-
-fn body_value(body: Body) -> Value {
-    match body {
-        Body::Absent => Value::Absent,
-        Body::Of { value, .. } => Value::At(value),
-    }
 }
 
 fn indicated_value(said: Indication) -> Value {

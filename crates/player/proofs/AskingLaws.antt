@@ -17,30 +17,28 @@ use Rattle.records.specs.declared.OwnId.{OwnId}
 use Rattle.records.specs.declared.PeerId.{PeerId}
 use Rattle.records.specs.declared.State.{State}
 use Rattle.records.specs.Limits.{octets}
-use Rattle.apdu.specs.declared.CodeField.{CodeField}
 use Rattle.apdu.specs.declared.CodeField.the-variants.{Local, Other}
 use Rattle.apdu.specs.declared.OwnLink.{OwnLink}
 use Rattle.apdu.specs.declared.PeerLink.{PeerLink}
 use Rattle.apdu.specs.declared.Value.{Value}
 use Rattle.apdu.specs.declared.Value.the-variants.{At, Absent as NoValue}
 use Rattle.apdu.specs.declared.Body.{Body}
-use Rattle.apdu.specs.declared.Body.the-variants.{Of as Holds, Absent as NoBody}
 use Rattle.apdu.specs.declared.Span.{Span}
 use Rattle.apdu.specs.declared.Number.the-variants.{Of, Absent}
 use Rattle.apdu.specs.declared.Parsed.{Parsed}
 use Rattle.apdu.specs.declared.Parsed.the-variants.{BadlyStructured, Unrecognized, Mistyped, Invoke, Result, Error, InvokeReject, ResultReject, ErrorReject, GeneralReject}
 use Rattle.apdu.proofs.Parsed as parsed
-use Rattle.apdu.specs.Parse.{parse}
+use Rattle.apdu.specs.Parse.{bodyValue, parse}
 use Rattle.apdu.specs.Reading.{readOwnLink, readPeerLink, readSpan, readValue, readBody, readParsed}
 use Rattle.protocol.specs.declared.Requested.{Requested}
 use Rattle.protocol.specs.declared.Outcome.{Outcome}
 use Rattle.protocol.specs.declared.Outcome.the-variants.{Accepted, Refused}
 use Rattle.protocol.specs.declared.Refusal.{Refusal}
-use Rattle.protocol.specs.Call.{Call, own, peer, invoke, result, error, reject, forget, Answer, accepted, refused, stateAfter, writtenBy}
+use Rattle.protocol.specs.Call.{Call, invoke, result, error, reject, forget, Answer, accepted, refused, stateAfter, writtenBy}
 use Rattle.protocol.specs.Perform.{perform}
 use Rattle.protocol.specs.Reading.{readOutcome, Written, RequestPromise}
 use Rattle.capture.specs.Entry.{sideOf, idOf}
-use Rattle.player.specs.Play.{valueOctets, bodyOctets, requestOf, forgetOf, differs, goes, agreed, asked}
+use Rattle.player.specs.Play.{valueOctets, requestOf, forgetBy, forgetOf, differs, goes, agreed, asked}
 use Rattle.player.specs.Reading.{heldBy, readRequested}
 use Rattle.player.proofs.SameLaws.{same-said}
 
@@ -80,14 +78,6 @@ pub value-none : (x : List ℕ) (v : Value) → v ≡ NoValue → [] ≡ valueOc
 unfolding readValue
 value-none x v e = rw e
 
-pub body-at : (x : List ℕ) (b : Body) (c : CodeField) (p : Span) → b ≡ Holds c p → readSpan x p .octets ≡ bodyOctets (readBody x b)
-unfolding readBody
-body-at x b c p e = rw e
-
-pub body-none : (x : List ℕ) (b : Body) → b ≡ NoBody → [] ≡ bodyOctets (readBody x b)
-unfolding readBody
-body-none x b e = rw e
-
 -- ---- the call that an entry fits
 
 module _ (T : List ℕ) (s : State) (x : List ℕ) (o : Option Call) (r : Requested) where
@@ -107,9 +97,9 @@ module _ (x : List ℕ) (p : Parsed) (said : readParsed x p ≡ parse x) where
   unfolding readParsed requestOf
   invoke-request i l c v k g n e kl gv room = rw (← said, e) (rw (kl, gv, room) refl)
 
-  pub result-request : (i : OwnId) (b : Body) (g : List ℕ) (n : ℕ) → p ≡ Result i b → g ≡ bodyOctets (readBody x b) → n ≡ octets → requestOf (parse x) ≡ some (result (i .0) g n)
+  pub result-request : (i : OwnId) (b : Body) (v : Value) (g : List ℕ) (n : ℕ) → p ≡ Result i b → readValue x v ≡ bodyValue (readBody x b) → g ≡ valueOctets (readValue x v) → n ≡ octets → requestOf (parse x) ≡ some (result (i .0) g n)
   unfolding readParsed requestOf
-  result-request i b g n e gv room = rw (← said, e) (rw (gv, room) refl)
+  result-request i b v g n e bv gv room = rw (← said, e) (rw (gv, bv, room) refl)
 
   pub error-request : (i : OwnId) (c : Code) (v : Value) (g : List ℕ) (n : ℕ) → p ≡ Error i (Local c) v → g ≡ valueOctets (readValue x v) → n ≡ octets → requestOf (parse x) ≡ some (error (i .0) c g n)
   unfolding readParsed requestOf
@@ -151,14 +141,9 @@ reads-no-request x p said h = ap requestOf (sym said) ∙ no-request x p h
 
 -- ---- a forget
 
-module _ (x : List ℕ) (i : ℕ) (e : i ≡ idOf x) where
-  pub own-forget : sideOf x ≡ 0 → forgetOf x ≡ some (forget own i)
-  unfolding forgetOf
-  own-forget f = rw (e, f) refl
-
-  pub peer-forget : sideOf x ≡ 1 → forgetOf x ≡ some (forget peer i)
-  unfolding forgetOf
-  peer-forget f = rw (e, f) refl
+pub forgets : (x : List ℕ) (side i : ℕ) → sideOf x ≡ side → i ≡ idOf x → forgetOf x ≡ forgetBy side i
+unfolding forgetOf
+forgets x side i e f = rw (e, f) refl
 
 pub no-forget : (x : List ℕ) → (sideOf x ≡ 0 → ⊥) → (sideOf x ≡ 1 → ⊥) → forgetOf x ≡ none
 unfolding forgetOf

@@ -11,7 +11,7 @@ use Rattle.optable.specs.Validity.{valid}
 use Rattle.apdu.specs.declared.Number.the-variants.{Of, Absent}
 use Rattle.apdu.specs.declared.CodeField.the-variants.{Local, Other}
 use Rattle.apdu.specs.Field.{Part}
-use Rattle.apdu.specs.Parse.{CodedValue, Apdu, badlyStructured, unrecognized, mistyped, parse, invoke as Invoke, result as Result, error as Error, reject as Reject}
+use Rattle.apdu.specs.Parse.{bodyValue, Apdu, badlyStructured, unrecognized, mistyped, parse, invoke as Invoke, result as Result, error as Error, reject as Reject}
 use Rattle.protocol.specs.Call.{own, peer, Call, receive, invoke, result, error, reject, forget, Answer, accepted, refused, stateAfter, writtenBy}
 use Rattle.protocol.specs.Perform.{perform}
 use Rattle.capture.specs.declared.Kind.{Kind}
@@ -26,27 +26,25 @@ abbrev pub valueOctets : Option Part → List ℕ
 valueOctets none = []
 valueOctets (some v) = v .octets
 
--- a result's code is no argument of its request
-abbrev pub bodyOctets : Option CodedValue → List ℕ
-bodyOctets none = []
-bodyOctets (some b) = b .value .octets
-
--- the request that would write a sent APDU; a Reject is one of a user only with 81 and an id, and what no request can write fits no call
+-- the request that would write a sent APDU: a result's code is no argument of it, a Reject is a user's only with 81 and an id; what no request can write fits no call
 unfoldable pub requestOf : Apdu → Option Call
 requestOf badlyStructured = none
 requestOf unrecognized = none
 requestOf (mistyped i) = none
 requestOf (Invoke i l (Local c) v) = some (invoke i c l (valueOctets v) octets)
 requestOf (Invoke i l Other v) = none
-requestOf (Result i b) = some (result i (bodyOctets b) octets)
+requestOf (Result i b) = some (result i (valueOctets (bodyValue b)) octets)
 requestOf (Error i (Local e) v) = some (error i e (valueOctets v) octets)
 requestOf (Error i Other v) = none
 requestOf (Reject Absent kind p) = none
 requestOf (Reject (Of i) kind p) = cond (eqb kind 0x81) (some (reject i p octets)) none
 
 -- a forget names a side, 0 for own and 1 for peer, and an id; with any other side it fits no call
+abbrev pub forgetBy : ℕ → ℕ → Option Call
+forgetBy side i = cond (eqb side 0) (some (forget own i)) (cond (eqb side 1) (some (forget peer i)) none)
+
 unfoldable pub forgetOf : List ℕ → Option Call
-forgetOf x = cond (eqb (sideOf x) 0) (some (forget own (idOf x))) (cond (eqb (sideOf x) 1) (some (forget peer (idOf x))) none)
+forgetOf x = forgetBy (sideOf x) (idOf x)
 
 -- ---- one entry played
 

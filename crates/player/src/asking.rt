@@ -8,15 +8,15 @@ ghost use Rattle.base.specs.Octets.{part};
 ghost use Rattle.records.specs.declared.State.{State};
 ghost use Rattle.records.specs.Limits.{octets};
 ghost use Rattle.apdu.specs.Parse.{parse};
-ghost use Rattle.apdu.specs.Reading.{readOwnLink, readPeerLink, readValue, readBody};
-ghost use Rattle.player.specs.Play.{valueOctets, bodyOctets, requestOf, forgetOf, differs, goes, asked};
+ghost use Rattle.apdu.specs.Reading.{readOwnLink, readPeerLink, readValue};
+ghost use Rattle.player.specs.Play.{valueOctets, requestOf, forgetOf, differs, goes, asked};
 ghost use Rattle.player.specs.Reading.{heldBy, readRequested};
-use apdu::Body;
 use apdu::CodeField;
 use apdu::OwnLink;
 use apdu::Parsed;
 use apdu::PeerLink;
 use apdu::Value;
+use apdu::parse::body_value;
 use apdu::parse::octets_of;
 use apdu::parse::parse;
 use base::octets::between;
@@ -62,15 +62,6 @@ fn value_octets(x: &[u8], value: Value) -> &[u8]
     }
 }
 
-fn body_octets(x: &[u8], body: Body) -> &[u8]
-    ensures { λ r. ⌜ now r ≡ bodyOctets (readBody (now (x .entry)) body) ⌝ }
-{
-    match body {
-        Body::Of { code: _, value } => octets_of(x, value),
-        Body::Absent => &x[0..0],
-    }
-}
-
 // The linked id of an Invoke that this end sent: read as received it would name an own invocation.
 fn peer_link(linked: OwnLink) -> PeerLink
     ensures { λ r. ⌜ readPeerLink r ≡ readOwnLink linked ⌝ }
@@ -102,7 +93,7 @@ pub(crate) fn asked(table: &[u8], state: State, x: &[u8], out: &mut [u8]) -> Req
             rose::invoke(state, table, OwnId(id.0), operation, link, given, out)
         }
         Parsed::Result { id, body } => {
-            let given = body_octets(x, body);
+            let given = value_octets(x, body_value(body));
             rose::result(state, table, PeerId(id.0), given, out)
         }
         Parsed::Error { id, code, value } => {

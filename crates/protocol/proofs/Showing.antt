@@ -13,12 +13,12 @@ use Rattle.records.specs.Records.{member}
 use Rattle.optable.specs.Lookup.{known}
 use Rattle.apdu.specs.declared.Number.the-variants.{Of, Absent}
 use Rattle.apdu.specs.Field.{Part, octetsOf}
-use Rattle.apdu.specs.Parse.{Apdu, badlyStructured, unrecognized, mistyped, parse, invoke as Invoke, result as Result, error as Error, reject as Reject}
+use Rattle.apdu.specs.Parse.{bodyValue, Apdu, badlyStructured, unrecognized, mistyped, parse, invoke as Invoke, result as Result, error as Error, reject as Reject}
 use Rattle.apdu.proofs.FirstOctet.{kindOctet, first-read}
 use Rattle.apdu.proofs.RoundTrip.{bodyOf}
 use Rattle.protocol.specs.Call.{receive, rejectedP, rejectedU, indicatedBy}
 use Rattle.protocol.specs.Check.{codeIn, ownRecords}
-use Rattle.protocol.specs.Receive.{fieldCode, bodyValue, invokeChecks, resultChecks, errorChecks, receiveApdu}
+use Rattle.protocol.specs.Receive.{fieldCode, invokeChecks, resultChecks, errorChecks, receiveApdu}
 use Rattle.protocol.specs.Perform.{checks, done, perform}
 use Rattle.protocol.specs.Book.{kiosk, controller, aResult, anError, Given, wired, Answered, World, shownBy}
 use Rattle.protocol.specs.Demand3.{WasGiven}

@@ -9,11 +9,11 @@ use Rattle.records.specs.declared.Record.{Record}
 use Rattle.records.specs.declared.State.{State}
 use Rattle.apdu.specs.declared.Number.the-variants.{Of, Absent}
 use Rattle.apdu.specs.Field.{octetsOf}
-use Rattle.apdu.specs.Parse.{Apdu, badlyStructured, unrecognized, mistyped, parse, invoke as Invoke, result as Result, error as Error, reject as Reject}
+use Rattle.apdu.specs.Parse.{bodyValue, Apdu, badlyStructured, unrecognized, mistyped, parse, invoke as Invoke, result as Result, error as Error, reject as Reject}
 use Rattle.base.specs.Lists.{nonEmpty}
 use Rattle.protocol.specs.Call.{own, peer, Call, receive, invoke, result, error, reject, forget, Indication, invoked, resulted, erred, rejectedU, rejectedP, Answer, isRefused, indicatedBy, writtenBy, stateAfter}
 use Rattle.protocol.specs.Check.{isSilent}
-use Rattle.protocol.specs.Receive.{fieldCode, bodyValue}
+use Rattle.protocol.specs.Receive.{fieldCode}
 use Rattle.protocol.specs.Perform.{perform}
 
 -- ---- ids

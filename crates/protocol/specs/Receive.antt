@@ -16,7 +16,7 @@ use Rattle.apdu.specs.declared.Number.the-variants.{Of, Absent}
 use Rattle.apdu.specs.declared.CodeField.{CodeField}
 use Rattle.apdu.specs.declared.CodeField.the-variants.{Local, Other}
 use Rattle.apdu.specs.Field.{Part, octetsOf}
-use Rattle.apdu.specs.Parse.{CodedValue, Apdu, badlyStructured, unrecognized, mistyped, invoke, result, error, reject}
+use Rattle.apdu.specs.Parse.{CodedValue, bodyValue, Apdu, badlyStructured, unrecognized, mistyped, invoke, result, error, reject}
 use Rattle.protocol.specs.Call.{Indication, invoked, resulted, erred, rejectedU, rejectedP, Refusal, plain, rejecting, Answer, accepted, refused}
 use Rattle.protocol.specs.Check.{Check, answer, ownRecords, peerRecords, codeIn, isFull, classIn, isSilent, isClass, isLinked, linkedTo}
 
@@ -41,10 +41,6 @@ isCodeOf Other d = false
 abbrev pub otherCode : Option CodedValue → Code → Bool
 otherCode none d = false
 otherCode (some b) d = not (isCodeOf (b .code) d)
-
-abbrev pub bodyValue : Option CodedValue → Option Part
-bodyValue none = none
-bodyValue (some b) = some (b .value)
 
 -- a problem of a kind with the received id
 abbrev pub problem : ℕ → ℕ → ℕ → Bool → Check

@@ -13,6 +13,7 @@ use crate::verdict::Verdict;
 use apdu::Body;
 use apdu::CodeField;
 use apdu::Value;
+use apdu::parse::body_value;
 use apdu::parse::octets_of;
 use optable::Operation;
 use optable::Rule;
@@ -39,7 +40,7 @@ ghost use Rattle.optable.specs.Value.{valueRight};
 ghost use Rattle.apdu.specs.Field.{octetsOf};
 ghost use Rattle.apdu.specs.declared.Number.{Number};
 ghost use Rattle.apdu.specs.Reading.{readValue, readBody};
-ghost use Rattle.protocol.specs.Receive.{fieldCode, bodyValue, otherCode, invokeChecks, resultChecks, errorChecks};
+ghost use Rattle.protocol.specs.Receive.{fieldCode, otherCode, invokeChecks, resultChecks, errorChecks};
 ghost use Rattle.rose.specs.Steps.{both, first, readVerdict, parentIn, isLocal};
 
 pub(crate) fn field_code(field: CodeField) -> Code
@@ -116,15 +117,6 @@ fn is_other(body: Body, code: Code) -> bool
             }
             true
         }
-    }
-}
-
-fn body_value(body: Body) -> Value
-    ensures { λ r. ⌜ ((x : List ℕ) → readValue x r ≡ bodyValue (readBody x body)) ⌝ }
-{
-    match body {
-        Body::Absent => Value::Absent,
-        Body::Of { code: _, value } => Value::At(value),
     }
 }
 

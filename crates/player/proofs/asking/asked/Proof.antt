@@ -31,15 +31,17 @@ returns-3 c =
 
 returns-4 : tie.Need-returns-4
 returns-4 c =
-    let made = c .before .before in let given = made .before .before in
-    let said = given .before .before in let g = said .said2 .given .0 in let read = said .before .before in
-    asks _ _ _ _ _ _ _ _ (result-request _ _ (read .parse .ensures) (g .0) (g .1 .0) _ _ (cc) (given .body-octets .ensures) (read .before .before .before .before .pre)) (made .result .ensures)
+    let made = c .before .before in let given = made .before .before in let value = given .before in
+    let said = value .before .before in let g = said .said2 .given .0 in let read = said .before .before in
+    asks _ _ _ _ _ _ _ _
+    (result-request _ _ (read .parse .ensures) (g .0) (g .1 .0) _ _ _ (cc) (value .body-value .ensures _) (given .value-octets2 .ensures) (read .before .before .before .before .pre))
+    (made .result .ensures)
 
 returns-5 : tie.Need-returns-5
 returns-5 c =
     let made = c .before .before in let given = made .before .before in let code = given .before .before in
     let said = code .before .before .before in let g = said .said3 .given .0 in let read = said .before .before in
-    asks _ _ _ _ _ _ _ _ (error-request _ _ (read .parse .ensures) (g .0) (code .code2 .given .0 .0) (g .1 .1 .0) _ _ (cc) (given .value-octets2 .ensures) (read .before .before .before .before .pre)) (made .error .ensures)
+    asks _ _ _ _ _ _ _ _ (error-request _ _ (read .parse .ensures) (g .0) (code .code2 .given .0 .0) (g .1 .1 .0) _ _ (cc) (given .value-octets3 .ensures) (read .before .before .before .before .pre)) (made .error .ensures)
 
 returns-6 : tie.Need-returns-6
 returns-6 c =
@@ -56,7 +58,7 @@ asked-spec =
     tie.close
     (tie.spec (λ c κs. search needs) (λ c. search needs) (λ c. search needs) (λ c. search needs) (λ c κs. search needs) returns
     (λ c κs. search needs) (λ c κs. search needs) (λ c κs. search needs) (λ c. search needs) (λ c κs. search needs)
-    (λ c κs. search needs) (λ c. search needs) (λ c. search needs) (λ c. search needs) (λ c κs. search needs) returns-2
-    (λ c κs. search needs) (λ c κs. search needs) (λ c. search needs) (λ c κs. search needs) (λ c κs. search needs)
-    (λ c. search needs) returns-3 (λ c. search needs) returns-4 (λ c. search needs) returns-5 (λ c. search needs) returns-6
-    returns-7)
+    (λ c κs. search needs) (λ c κs. search needs) (λ c. search needs) (λ c. search needs) (λ c. search needs)
+    (λ c κs. search needs) returns-2 (λ c κs. search needs) (λ c κs. search needs) (λ c. search needs) (λ c κs. search needs)
+    (λ c κs. search needs) (λ c. search needs) returns-3 (λ c. search needs) returns-4 (λ c. search needs) returns-5
+    (λ c. search needs) returns-6 returns-7)

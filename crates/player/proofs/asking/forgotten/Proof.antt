@@ -1,15 +1,15 @@
--- Each side is a law.
+-- The side decides.
 use native.Mathlib.Omega.{arith}
-use Rattle.player.proofs.AskingLaws.{asks, asks-nothing, own-forget, peer-forget, no-forget}
+use Rattle.player.proofs.AskingLaws.{asks, asks-nothing, forgets, no-forget}
 use borrow.Author.Needs.{needs}
 use Rattle.player.proofs.asking.forgotten.Statement.{statement}
 use Rattle.player.proofs.asking.forgotten.Tie as tie
 
 returns : tie.Need-returns
-returns c = asks _ _ _ _ _ _ _ _ (own-forget _ _ (c .before .before .before .id-of .ensures) (omega arith)) (c .forget .ensures)
+returns c = asks _ _ _ _ _ _ _ _ (forgets _ 0 _ (omega arith) (c .before .before .before .id-of .ensures)) (c .forget .ensures)
 
 returns-2 : tie.Need-returns-2
-returns-2 c = asks _ _ _ _ _ _ _ _ (peer-forget _ _ (c .before .before .before .id-of .ensures) (omega arith)) (c .forget2 .ensures)
+returns-2 c = asks _ _ _ _ _ _ _ _ (forgets _ 1 _ (omega arith) (c .before .before .before .id-of .ensures)) (c .forget2 .ensures)
 
 returns-3 : tie.Need-returns-3
 returns-3 c = asks-nothing _ _ _ _ _ _ (no-forget _ (λ e. omega arith) (λ e. omega arith)) (c .unfit .ensures _ _)
