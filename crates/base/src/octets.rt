@@ -28,22 +28,26 @@ fn joined(high: u16, low: u16) -> u32
 pub fn two(s: &[u8], at: usize) -> u16
     ensures { λ r. ⌜ r ≡ u16 (now (s .entry)) at ⌝ }
 {
-    if at < s.len() {
-        return pair(s[at], octet(s, at + 1));
+    if s.len() >= 2 {
+        if at <= s.len() - 2 {
+            return pair(s[at], s[at + 1]);
+        }
     }
-    0
+    pair(octet(s, at), 0)
 }
 
 pub fn four(s: &[u8], at: usize) -> u32
     ensures { λ r. ⌜ r ≡ u32 (now (s .entry)) at ⌝ }
 {
+    if s.len() >= 4 {
+        if at <= s.len() - 4 {
+            return joined(pair(s[at], s[at + 1]), pair(s[at + 2], s[at + 3]));
+        }
+    }
     if at >= s.len() {
         return 0;
     }
-    if s.len() - at < 3 {
-        return joined(two(s, at), 0);
-    }
-    joined(two(s, at), two(s, at + 2))
+    joined(two(s, at), pair(octet(s, at + 2), 0))
 }
 
 // The octets from `at` up to `end`, as far as there are any.

@@ -1,0 +1,5 @@
+pub mod OrderLaws
+pub mod CountLaws
+pub mod SearchLaws
+pub mod Witness
+mod FindAnswers
