@@ -13,12 +13,12 @@ use Rattle.optable.specs.declared.Operation.{Operation}
 use Rattle.optable.specs.declared.Error.{Error}
 use Rattle.optable.specs.declared.Extension.{Extension}
 use Rattle.optable.specs.declared.Extension.the-variants.{Complete, OldInvalid, NewInvalid, Missing}
-use Rattle.optable.specs.Count.{seek}
+use Rattle.codes.specs.Count.{seek}
 use Rattle.optable.specs.Read.{count, codeAt, operationAt, errorAt, firstAt, secondAt, secondPart}
 use Rattle.optable.specs.Validity.{valid, coded}
 use Rattle.optable.specs.Lookup.{operationIn, errorIn, listed, classOf, argumentOf, resultOf, known, parameterOf, joined, CodeAnswer, PairAnswer}
 use Rattle.optable.specs.Extension.{sameRule, sameOperation, sameError, pairIn, entryIn, firstOf, missingAt, firstMissing, partExtension, extension}
-use Rattle.optable.proofs.CountLaws.{seek-found, seek-passed, seek-ended}
+use Rattle.codes.proofs.CountLaws.{seek-found, seek-passed, seek-ended}
 use Rattle.optable.proofs.TableLaws.{operation-answer, error-answer}
 
 -- ---- the same rule, operation, error

@@ -9,8 +9,8 @@ use Rattle.base.proofs.Tests.{and-left, and-right, and-true, test-right, both-r
 use Rattle.records.specs.declared.Code.{Code}
 use Rattle.optable.specs.declared.Part.{Part}
 use Rattle.optable.specs.declared.Part.the-variants.{Operations, Errors, ErrorPairs, ChildPairs}
-use Rattle.optable.specs.declared.Place.{Place}
-use Rattle.optable.specs.declared.Place.the-variants.{At, Nowhere}
+use Rattle.codes.specs.declared.Place.{Place}
+use Rattle.codes.specs.declared.Place.the-variants.{At, Nowhere}
 use Rattle.optable.specs.declared.Rule.{Rule}
 use Rattle.optable.specs.declared.Operation.{Operation}
 use Rattle.optable.specs.declared.Operation.the-variants.{Listed, Unlisted}
@@ -23,7 +23,7 @@ use Rattle.optable.specs.Validity.{valid, coded}
 use Rattle.optable.specs.Lookup.{find, operationIn, operationOf, errorIn, errorOf, listed, known, joins, joined, Extends}
 use Rattle.optable.specs.Extension.{sameRule, sameOperation, sameError, pairIn, entryIn, complete, firstOf, missingAt, firstMissing, partExtension, extension, ExtendsAnswer}
 use Rattle.base.proofs.CountLaws.{every-at, every-all, any-here, any-where}
-use Rattle.optable.proofs.CountLaws.{seek-every}
+use Rattle.codes.proofs.CountLaws.{seek-every}
 use Rattle.optable.proofs.ListLaws.{has-code-is, find-held}
 use Rattle.optable.proofs.TableLaws.{operation-at, error-at}
 

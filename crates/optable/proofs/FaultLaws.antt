@@ -16,12 +16,12 @@ use Rattle.optable.specs.declared.Breach.the-variants.{Unbroken, Class, 
 use Rattle.optable.specs.declared.Fault.{Fault}
 use Rattle.optable.specs.declared.Fault.the-variants.{Nothing, Header, Offset, Length, Count, Entry}
 use Rattle.base.specs.Count.{every}
-use Rattle.optable.specs.Count.{seek}
+use Rattle.codes.specs.Count.{seek}
 use Rattle.optable.specs.Read.{count, start, classAt, flagsAt, argumentAt, resultAt, flagAt, parameterAt, firstAt, secondAt, secondPart}
 use Rattle.optable.specs.Validity.{withinLimit, behind, laidOut, ruleRight, resultRight, operationRight, errorRight, allowed, pairRight, fieldsRight, rises, entryRight, partRight, valid}
 use Rattle.optable.specs.Fault.{unbroken, needs, ruleBreach, operationBreach, errorBreach, pairBreach, fieldsBreach, entryBreach, firstWrong, entryFault, partFault, layoutFault, nothing, firstOf, firstFault}
 use Rattle.optable.proofs.LayoutLaws.{header-missing}
-use Rattle.optable.proofs.CountLaws.{seek-found, seek-passed, seek-ended, seek-every}
+use Rattle.codes.proofs.CountLaws.{seek-found, seek-passed, seek-ended, seek-every}
 
 -- ---- no breach, and right
 

@@ -1,7 +1,5 @@
-pub mod CountLaws
 pub mod ListLaws
 pub mod TableLaws
-pub mod OrderLaws
 mod LayoutLaws
 mod WalkLaws
 mod FaultLaws

@@ -11,12 +11,13 @@ use Rattle.records.specs.declared.Code.{Code}
 use Rattle.records.proofs.Laws.{same-code-equal}
 use Rattle.optable.specs.declared.Part.{Part}
 use Rattle.optable.specs.declared.Part.the-variants.{Operations, Errors, ErrorPairs, ChildPairs}
-use Rattle.optable.specs.declared.Place.the-variants.{At}
-use Rattle.optable.specs.Read.{count, rank, codeAt, hasCode, secondPart}
+use Rattle.codes.specs.declared.Place.the-variants.{At}
+use Rattle.codes.specs.Order.{rank}
+use Rattle.optable.specs.Read.{count, codeAt, hasCode, secondPart}
 use Rattle.optable.specs.Validity.{withinLimit, coded, above, rises}
 use Rattle.optable.specs.Lookup.{find, ordered, Holds}
 use Rattle.base.proofs.CountLaws.{every-at}
-use Rattle.optable.proofs.CountLaws.{seek-is, seek-facts}
+use Rattle.codes.proofs.CountLaws.{seek-is, seek-facts}
 
 pub second-coded : (k : Part) → coded (secondPart k) ≡ true
 second-coded Operations = refl

@@ -1,21 +1,21 @@
 -- What each way out of the searches for a pair answers: pairs are compared by the indexes that were found for their codes.
 use Prim.Native.Nat.{ℕ, _≤_, _<_}
 use native.Mathlib.Omega.{arith}
-use mathlib.Core.Path.{_≡_, refl, sym, subst, _∙_}
+use mathlib.Core.Path.{_≡_, refl, sym, _∙_}
 use mathlib.Core.Bool.{Bool, true, false, false≢true}
 use mathlib.Core.List.{List}
-use borrow.Author.Tests.{eqb-true, eq-eqb, ne-eqb, leb-true, le-leb, lt-leb}
+use borrow.Author.Tests.{eqb-true, eq-eqb, leb-true, le-leb}
 use lib.Dec.{eqb, leb}
 use Rattle.base.proofs.Tests.{and-left, and-right, and-true, both-ways}
 use Rattle.records.specs.declared.Code.{Code}
 use Rattle.optable.specs.declared.Part.{Part}
 use Rattle.optable.specs.declared.Part.the-variants.{Operations, ChildPairs}
-use Rattle.optable.specs.declared.Place.{Place}
-use Rattle.optable.specs.declared.Place.the-variants.{At, Nowhere}
+use Rattle.codes.specs.declared.Place.{Place}
+use Rattle.codes.specs.declared.Place.the-variants.{At, Nowhere}
 use Rattle.base.specs.Count.{any}
-use Rattle.optable.specs.Read.{count, hasCode, firstAt, secondAt, secondPart}
+use Rattle.optable.specs.Read.{sizeOf, count, start, entryStart, hasCode, firstAt, secondAt, secondPart}
 use Rattle.optable.specs.Validity.{coded, valid}
-use Rattle.optable.specs.Lookup.{joins, joined, parentAt, hasChild, CodeAnswer, PairAnswer}
+use Rattle.optable.specs.Lookup.{joins, joined, parentAt, hasChild, PlaceOf, PairAnswer}
 use Rattle.optable.specs.Steps.{pairWithin}
 use Rattle.base.proofs.CountLaws.{any-here, any-where}
 use Rattle.optable.proofs.ListLaws.{second-coded}
@@ -33,50 +33,30 @@ nowhere-apart {i} e =
     omega arith
 
 module _ (t : List ℕ) (k : Part) (a low high i : ℕ) where
-  pub pair-first-other : (f : ℕ) → f ≡ firstAt t k i → (f ≡ a → ⊥) → false ≡ pairWithin t k a low high i
-  unfolding pairWithin
-  pair-first-other f e h =
-      let g : firstAt t k i ≡ a → ⊥ = λ q. h (e ∙ q) in
-      simp (ne-eqb _ _ g)
-
-  module _ (f : ℕ) (e : f ≡ firstAt t k i) (h : f ≡ a) (s : ℕ) (q : s ≡ secondAt t k i) where
-    first-here : firstAt t k i ≡ a
-    first-here = sym e ∙ h
-
-    pub pair-second-low : s < low → false ≡ pairWithin t k a low high i
-    unfolding pairWithin
-    pair-second-low l =
-        let m : secondAt t k i < low = omega arith in
-        simp (eq-eqb _ _ first-here, lt-leb _ _ m)
-
-    pub pair-second-decides : low ≤ s → leb s high ≡ pairWithin t k a low high i
-    unfolding pairWithin
-    pair-second-decides l =
-        let m : low ≤ secondAt t k i = omega arith in
-        rw q (simp (eq-eqb _ _ first-here, le-leb _ _ m))
-
-  within-first : pairWithin t k a low high i ≡ true → firstAt t k i ≡ a
-  unfolding pairWithin
+  within-first : pairWithin t (start t k) (sizeOf k) a low high i ≡ true → firstAt t k i ≡ a
+  unfolding pairWithin firstAt secondAt entryStart
   within-first h = eqb-true _ _ (and-left (eqb (firstAt t k i) a) _ h)
 
-  within-second : pairWithin t k a low high i ≡ true → (low ≤ secondAt t k i) × (secondAt t k i ≤ high)
-  unfolding pairWithin
+  within-second : pairWithin t (start t k) (sizeOf k) a low high i ≡ true → (low ≤ secondAt t k i) × (secondAt t k i ≤ high)
+  unfolding pairWithin firstAt secondAt entryStart
   within-second h =
       let g = and-right (eqb (firstAt t k i) a) _ h in
       (leb-true _ _ (and-left (leb low (secondAt t k i)) _ g), leb-true _ _ (and-right (leb low (secondAt t k i)) _ g))
 
-  within : firstAt t k i ≡ a → low ≤ secondAt t k i → secondAt t k i ≤ high → pairWithin t k a low high i ≡ true
-  unfolding pairWithin
+  within : firstAt t k i ≡ a → low ≤ secondAt t k i → secondAt t k i ≤ high → pairWithin t (start t k) (sizeOf k) a low high i ≡ true
+  unfolding pairWithin firstAt secondAt entryStart
   within e l m = and-true (eq-eqb _ _ e) (and-true (le-leb _ _ l) (le-leb _ _ m))
 
 module _ (t : List ℕ) (k : Part) (a low high : ℕ) where
-  pub pair-here : (n i : ℕ) → n ≡ count t k → i < n → pairWithin t k a low high i ≡ true → true ≡ any (pairWithin t k a low high) (count t k)
-  pair-here n i e p h = sym (any-here (pairWithin t k a low high) (count t k) i (omega arith) h)
+  -- the search reads the start and the size once
+  module _ (n f s i : ℕ) (e : n ≡ count t k) (g : f ≡ start t k) (z : s ≡ sizeOf k) where
+    pub pair-here : i < n → pairWithin t f s a low high i ≡ true → true ≡ any (pairWithin t (start t k) (sizeOf k) a low high) (count t k)
+    pair-here p h = sym (any-here (pairWithin t (start t k) (sizeOf k) a low high) (count t k) i (omega arith) (rw (g, z) at h))
 
-  pub pairs-ended : (n i : ℕ) → n ≡ count t k → i ≤ n → n ≤ i → any (pairWithin t k a low high) i ≡ false → false ≡ any (pairWithin t k a low high) (count t k)
-  pairs-ended n i e p q h =
-      let g : i ≡ count t k = omega arith in
-      rw g at (sym h)
+    pub pairs-ended : i ≤ n → n ≤ i → any (pairWithin t f s a low high) i ≡ false → false ≡ any (pairWithin t (start t k) (sizeOf k) a low high) (count t k)
+    pairs-ended p q h =
+        let m : i ≡ count t k = omega arith in
+        rw (m, g, z) at (sym h)
 
 -- an answer that is true only where the definition is, and in a valid table wherever the definition is
 pair-answer : (t : List ℕ) (d r : Bool) → (r ≡ true → d ≡ true) → (valid t ≡ true → d ≡ true → r ≡ true) → PairAnswer t d r
@@ -84,7 +64,7 @@ pair-answer t d r f g = record { in-valid = λ v. both-ways r d f (g v); in-any 
 
 -- ---- pairs by the indexes found
 
-module _ (t : List ℕ) (k : Part) (w : coded k ≡ false) (c d : Code) (p : Place) (f : CodeAnswer t Operations c (λ q. q) p) where
+module _ (t : List ℕ) (k : Part) (w : coded k ≡ false) (c d : Code) (p : Place) (f : PlaceOf t Operations c p) where
   -- in a valid table a pair's first index is where its operation was found
   first-index : valid t ≡ true → (i : ℕ) → i < count t k → hasCode t Operations c (firstAt t k i) ≡ true → p ≡ At (firstAt t k i)
   first-index v i l h = place-is t Operations c v refl p f (firstAt t k i) (pair-first t v k w i l) h
@@ -95,10 +75,7 @@ module _ (t : List ℕ) (k : Part) (w : coded k ≡ false) (c d : Code) (p : Pla
       let a = any-where (joins t k c d) (count t k) h in
       absurd (nowhere-apart (sym e ∙ first-index v (a .0) (a .1 .0) (and-left (hasCode t Operations c (firstAt t k (a .0))) _ (a .1 .1)))))
 
-  module _ (j : Part) (s : j ≡ secondPart k) (q : Place) (l : CodeAnswer t j d (λ q. q) q) where
-    g : CodeAnswer t (secondPart k) d (λ q. q) q
-    g = subst (λ (x : Part). CodeAnswer t x d (λ q. q) q) s l
-
+  module _ (q : Place) (g : PlaceOf t (secondPart k) d q) where
     second-index : valid t ≡ true → (i : ℕ) → i < count t k → hasCode t (secondPart k) d (secondAt t k i) ≡ true → q ≡ At (secondAt t k i)
     second-index v i l h = place-is t (secondPart k) d v (second-coded k) q g (secondAt t k i) (pair-second t v k w i l) h
 
@@ -109,10 +86,10 @@ module _ (t : List ℕ) (k : Part) (w : coded k ≡ false) (c d : Code) (p : Pla
         absurd (nowhere-apart (sym e ∙ second-index v (a .0) (a .1 .0) (and-right (hasCode t Operations c (firstAt t k (a .0))) _ (a .1 .1)))))
 
     module _ (a b : ℕ) (m : p ≡ At a) (n : q ≡ At b) where
-      indexes-joined : any (pairWithin t k a b b) (count t k) ≡ true → joined t k c d ≡ true
+      indexes-joined : any (pairWithin t (start t k) (sizeOf k) a b b) (count t k) ≡ true → joined t k c d ≡ true
       unfolding joined joins
       indexes-joined h =
-          let u = any-where (pairWithin t k a b b) (count t k) h in
+          let u = any-where (pairWithin t (start t k) (sizeOf k) a b b) (count t k) h in
           let x = within-first t k a b b (u .0) (u .1 .1) in
           let y = within-second t k a b b (u .0) (u .1 .1) in
           let z : secondAt t k (u .0) ≡ b = omega arith in
@@ -120,22 +97,22 @@ module _ (t : List ℕ) (k : Part) (w : coded k ≡ false) (c d : Code) (p : Pla
           let r : hasCode t (secondPart k) d (secondAt t k (u .0)) ≡ true = rw z (place-here t (secondPart k) d q b g n) in
           any-here (joins t k c d) (count t k) (u .0) (u .1 .0) (and-true l r)
 
-      joined-indexes : valid t ≡ true → joined t k c d ≡ true → any (pairWithin t k a b b) (count t k) ≡ true
+      joined-indexes : valid t ≡ true → joined t k c d ≡ true → any (pairWithin t (start t k) (sizeOf k) a b b) (count t k) ≡ true
       unfolding joined joins
       joined-indexes v h =
           let u = any-where (joins t k c d) (count t k) h in
           let x = first-index v (u .0) (u .1 .0) (and-left (hasCode t Operations c (firstAt t k (u .0))) _ (u .1 .1)) in
           let y = second-index v (u .0) (u .1 .0) (and-right (hasCode t Operations c (firstAt t k (u .0))) _ (u .1 .1)) in
           let z = same-index (sym y ∙ n) in
-          any-here (pairWithin t k a b b) (count t k) (u .0) (u .1 .0)
+          any-here (pairWithin t (start t k) (sizeOf k) a b b) (count t k) (u .0) (u .1 .0)
           (within t k a b b (u .0) (same-index (sym x ∙ m)) (omega arith) (omega arith))
 
-      pub joined-by-indexes : (r : Bool) → r ≡ any (pairWithin t k a b b) (count t k) → PairAnswer t (joined t k c d) r
+      pub joined-by-indexes : (r : Bool) → r ≡ any (pairWithin t (start t k) (sizeOf k) a b b) (count t k) → PairAnswer t (joined t k c d) r
       joined-by-indexes r e = pair-answer t (joined t k c d) r (λ h. indexes-joined (sym e ∙ h)) (λ v h. e ∙ joined-indexes v h)
 
 -- ---- a parent by the index found
 
-module _ (t : List ℕ) (c : Code) (p : Place) (f : CodeAnswer t Operations c (λ q. q) p) where
+module _ (t : List ℕ) (c : Code) (p : Place) (f : PlaceOf t Operations c p) where
   pub parent-nowhere : p ≡ Nowhere → PairAnswer t (hasChild t c) false
   unfolding hasChild parentAt
   parent-nowhere e = pair-answer t (hasChild t c) false (λ h. absurd (false≢true h)) (λ v h.
@@ -143,22 +120,22 @@ module _ (t : List ℕ) (c : Code) (p : Place) (f : CodeAnswer t Operations c (�
       absurd (nowhere-apart (sym e ∙ first-index t ChildPairs refl c c p f v (a .0) (a .1 .0) (a .1 .1))))
 
   module _ (a : ℕ) (m : p ≡ At a) where
-    index-parent : any (pairWithin t ChildPairs a 0 65535) (count t ChildPairs) ≡ true → hasChild t c ≡ true
+    index-parent : any (pairWithin t (start t ChildPairs) (sizeOf ChildPairs) a 0 65535) (count t ChildPairs) ≡ true → hasChild t c ≡ true
     unfolding hasChild parentAt
     index-parent h =
-        let u = any-where (pairWithin t ChildPairs a 0 65535) (count t ChildPairs) h in
+        let u = any-where (pairWithin t (start t ChildPairs) (sizeOf ChildPairs) a 0 65535) (count t ChildPairs) h in
         let x = within-first t ChildPairs a 0 65535 (u .0) (u .1 .1) in
         any-here (parentAt t c) (count t ChildPairs) (u .0) (u .1 .0) (rw x (place-here t Operations c p a f m))
 
-    parent-index : valid t ≡ true → hasChild t c ≡ true → any (pairWithin t ChildPairs a 0 65535) (count t ChildPairs) ≡ true
+    parent-index : valid t ≡ true → hasChild t c ≡ true → any (pairWithin t (start t ChildPairs) (sizeOf ChildPairs) a 0 65535) (count t ChildPairs) ≡ true
     unfolding hasChild parentAt
     parent-index v h =
         let u = any-where (parentAt t c) (count t ChildPairs) h in
         let x = first-index t ChildPairs refl c c p f v (u .0) (u .1 .0) (u .1 .1) in
         let y = pair-second t v ChildPairs refl (u .0) (u .1 .0) in
         let z = valid-limit t v Operations in
-        any-here (pairWithin t ChildPairs a 0 65535) (count t ChildPairs) (u .0) (u .1 .0)
+        any-here (pairWithin t (start t ChildPairs) (sizeOf ChildPairs) a 0 65535) (count t ChildPairs) (u .0) (u .1 .0)
         (within t ChildPairs a 0 65535 (u .0) (same-index (sym x ∙ m)) (omega arith) (omega arith))
 
-    pub parent-by-index : (r : Bool) → r ≡ any (pairWithin t ChildPairs a 0 65535) (count t ChildPairs) → PairAnswer t (hasChild t c) r
+    pub parent-by-index : (r : Bool) → r ≡ any (pairWithin t (start t ChildPairs) (sizeOf ChildPairs) a 0 65535) (count t ChildPairs) → PairAnswer t (hasChild t c) r
     parent-by-index r e = pair-answer t (hasChild t c) r (λ h. index-parent (sym e ∙ h)) (λ v h. e ∙ parent-index v h)

@@ -1,6 +1,6 @@
 -- What a valid table gives its callers: its limits, its order, and what pairs and classes exclude.
 use Prim.Native.Nat.{ℕ, _≤_, _<_}
-use mathlib.Core.Path.{_≡_, refl, sym, _∙_}
+use mathlib.Core.Path.{_≡_, refl, sym, ap, _∙_}
 use mathlib.Core.Logic.{_⊎_, inl, inr}
 use mathlib.Core.Bool.{Bool, true, false, _&&_, true≢false}
 use mathlib.Core.List.{List}
@@ -10,11 +10,12 @@ use Rattle.base.proofs.Tests.{and-left, and-right, and-true}
 use Rattle.records.specs.declared.Code.{Code}
 use Rattle.optable.specs.declared.Part.{Part}
 use Rattle.optable.specs.declared.Part.the-variants.{Operations, Errors, ErrorPairs, ChildPairs}
+use Rattle.codes.specs.declared.Place.{Place}
 use Rattle.optable.specs.declared.Operation.{Operation}
 use Rattle.optable.specs.declared.Error.{Error}
 use Rattle.optable.specs.Read.{count, hasCode, operationAt, errorAt, classAt, firstAt, secondAt, secondPart}
 use Rattle.optable.specs.Validity.{limitOf, withinLimit, laidOut, coded, rises, allowed, pairRight, fieldsRight, entryRight, partRight, valid}
-use Rattle.optable.specs.Lookup.{operationIn, operationOf, errorIn, errorOf, listed, classOf, known, joins, joined, paired, childOf, parentAt, hasChild, ordered, CodeAnswer}
+use Rattle.optable.specs.Lookup.{operationIn, operationOf, errorIn, errorOf, listed, classOf, known, joins, joined, paired, childOf, parentAt, hasChild, ordered, CodeAnswer, PlaceOf}
 use Rattle.base.proofs.CountLaws.{every-at, every-all, any-here, any-where}
 use Rattle.optable.proofs.ListLaws.{has-code-is, codes-distinct, find-is}
 
@@ -66,6 +67,16 @@ module _ (t : List ℕ) (v : valid t ≡ true) where
   pub error-answer : (e : Code) (r : Error) → CodeAnswer t Errors e (errorIn t) r → r ≡ errorOf t e
   unfolding errorOf
   error-answer e r a = a .in-order (valid-ordered Errors)
+
+  -- ---- what stands where a code was found
+
+  pub operation-there : (c : Code) (p : Place) → PlaceOf t Operations c p → operationIn t p ≡ operationOf t c
+  unfolding operationOf
+  operation-there c p a = ap (operationIn t) (a .in-order (valid-ordered Operations))
+
+  pub error-there : (e : Code) (p : Place) → PlaceOf t Errors e p → errorIn t p ≡ errorOf t e
+  unfolding errorOf
+  error-there e p a = ap (errorIn t) (a .in-order (valid-ordered Errors))
 
   -- ---- entries by code
 

@@ -14,8 +14,8 @@ use Rattle.optable.specs.declared.Rule.{Rule}
 use Rattle.optable.specs.declared.Breach.{Breach}
 use Rattle.optable.specs.declared.Breach.the-variants.{Unbroken, Class, Flags, ArgumentFlag, ArgumentType, ResultFlag, ResultType, ResultUnexpected, ParameterFlag, ParameterType, FirstIndex, SecondIndex, PairClass, Order}
 use Rattle.optable.specs.declared.Fault.the-variants.{Nothing, Header, Offset, Length}
-use Rattle.optable.specs.Read.{count, start, below, codeAt, classAt, firstAt, secondAt, secondPart}
-use Rattle.optable.specs.Validity.{behind, ruleRight, resultRight, allowed, coded, pairBelow, above, rises, fieldsRight}
+use Rattle.optable.specs.Read.{count, start, classAt, firstAt, secondAt, secondPart}
+use Rattle.optable.specs.Validity.{behind, ruleRight, resultRight, allowed, pairBelow, above, rises, fieldsRight}
 use Rattle.optable.specs.Fault.{ruleBreach, operationBreach, errorBreach, pairBreach, fieldsBreach, entryBreach, layoutFault}
 
 -- ---- the header
@@ -188,14 +188,6 @@ module _ (a b c d : ℕ) where
 -- ---- order and entries
 
 module _ (t : List ℕ) (k : Part) where
-  pub above-by-code : (h i : ℕ) {b : Bool} → coded k ≡ true → b ≡ below (codeAt t k h) (codeAt t k i) → b ≡ above t k h i
-  unfolding above
-  above-by-code h i {b} e f = f ∙ rw e
-
-  pub above-by-pair : (h i : ℕ) {b : Bool} → coded k ≡ false → b ≡ pairBelow (firstAt t k h) (secondAt t k h) (firstAt t k i) (secondAt t k i) → b ≡ above t k h i
-  unfolding above
-  above-by-pair h i {b} e f = f ∙ rw e
-
   pub first-rises : (i : ℕ) → i ≡ 0 → true ≡ rises t k i
   unfolding rises
   first-rises i h = simp (eq-eqb _ _ h)

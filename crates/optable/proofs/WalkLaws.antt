@@ -2,7 +2,7 @@
 use Prim.Native.Nat.{ℕ, _+_, _-_, _*_, _/_, _%_, _≤_, _<_}
 use native.Mathlib.Omega.{arith}
 use mathlib.Core.Path.{_≡_, refl, ap, subst, _∙_}
-use mathlib.Core.Bool.{Bool, true, false, true≢false}
+use mathlib.Core.Bool.{Bool, true, false, cond, true≢false}
 use mathlib.Core.List.{List}
 use borrow.Author.Tests.{lt-ltb, le-ltb, ltb-true, ltb-false, eqb-true, eqb-false}
 use lib.ListN.{length, getD}
@@ -12,13 +12,14 @@ use Rattle.optable.specs.declared.Part.the-variants.{Operations, Errors,
 use Rattle.optable.specs.declared.Breach.{Breach}
 use Rattle.optable.specs.declared.entry.Reached.{Reached}
 use Rattle.base.specs.Octets.{u16, u32}
-use Rattle.optable.specs.Read.{sizeOf, count, start, entryStart, octetAt, codeAt, classAt, firstAt, secondAt, below}
+use Rattle.codes.specs.Order.{rank}
+use Rattle.optable.specs.Read.{sizeOf, count, start, entryStart, octetAt, codeAt, classAt, firstAt, secondAt}
 use Rattle.optable.specs.Validity.{laidOut, allowed, coded, pairBelow, above}
 use Rattle.optable.specs.Fault.{operationBreach, errorBreach, pairBreach, fieldsBreach}
 use Rattle.optable.specs.Steps.{Stands}
 use Rattle.optable.proofs.LayoutLaws.{next-entry, entry-near, entry-starts-rise, entry-inside}
-use Rattle.optable.proofs.OrderLaws.{same-order}
-use Rattle.optable.proofs.ValidityAnswers.{first-below, first-above, first-same, above-by-code, above-by-pair}
+use Rattle.codes.proofs.OrderLaws.{same-order}
+use Rattle.optable.proofs.ValidityAnswers.{first-below, first-above, first-same}
 
 -- ---- where it stands
 
@@ -65,6 +66,11 @@ pair-as-one a b c d p q = go (ltb a c) refl (eqb a c) refl
         let n = eqb-false a c f in
         le-ltb (a * 65536 + b) (c * 65536 + d) (omega (arith, n)) ∙ first-above a b c d l n
 
+-- the same where codes are compared by their ranks
+as-one : (w : Bool) (a b c d : ℕ) → b < 65536 → d < 65536 → ltb (cond w (rank (a * 65536 + b)) (a * 65536 + b)) (cond w (rank (c * 65536 + d)) (c * 65536 + d)) ≡ cond w (ltb (rank (a * 65536 + b)) (rank (c * 65536 + d))) (pairBelow a b c d)
+as-one true a b c d p q = refl
+as-one false a b c d p q = pair-as-one a b c d p q
+
 module _ {t : List ℕ} {k : Part} {e : Reached} (w : Stands t k e) where
   pub octet-read : (m : ℕ) {n : ℕ} → n ≡ getD t (e .at + m) 0 → n ≡ octetAt t k (e .index) m
   unfolding octetAt
@@ -89,18 +95,10 @@ module _ {t : List ℕ} {k : Part} {e : Reached} (w : Stands t k e) where
     pub before-inside : e .before + 4 ≤ length t
     before-inside = omega (arith, w .last h, w .here, entry-starts-rise t k (e .index - 1) (e .index) (omega arith), here-inside)
 
-    pub codes-decide : {a b : ℕ} {r : Bool} → coded k ≡ true → a ≡ u32 t (e .before) → b ≡ u32 t (e .at) → r ≡ below (record { 0 = a }) (record { 0 = b }) → r ≡ above t k (e .index - 1) (e .index)
-    unfolding codeAt
-    codes-decide {a} {b} {r} c p q g =
-        let p′ : a ≡ u32 t (entryStart t k (e .index - 1)) = p ∙ ap (u32 t) (w .last h) in
-        let q′ : b ≡ u32 t (entryStart t k (e .index)) = q ∙ ap (u32 t) (w .here) in
-        above-by-code t k (e .index - 1) (e .index) c (g ∙ rw (p′, q′) refl)
-
-    pub pairs-decide : {a b : ℕ} {r : Bool} → coded k ≡ false → a ≡ u32 t (e .before) → u16 t (e .before + 2) < 65536 → b ≡ u32 t (e .at) → u16 t (e .at + 2) < 65536 → r ≡ ltb a b → r ≡ above t k (e .index - 1) (e .index)
-    unfolding firstAt secondAt
-    pairs-decide {a} {b} {r} n p x q y g =
-        let s : ltb a b ≡ pairBelow (u16 t (e .before)) (u16 t (e .before + 2)) (u16 t (e .at)) (u16 t (e .at + 2)) = rw (p, q) (pair-as-one _ _ _ _ x y) in
-        above-by-pair t k (e .index - 1) (e .index) n (g ∙ s ∙ rw (w .last h, w .here) refl)
+    -- the number of each entry that rises with the entries decides
+    pub order-decides : {a b x y : ℕ} → a ≡ u32 t (e .before) → u16 t (e .before + 2) < 65536 → b ≡ u32 t (e .at) → u16 t (e .at + 2) < 65536 → x ≡ cond (coded k) (rank a) a → y ≡ cond (coded k) (rank b) b → ltb x y ≡ above t k (e .index - 1) (e .index)
+    unfolding above codeAt firstAt secondAt
+    order-decides {a} {b} {x} {y} p l q m f g = rw (f, g, p, q, w .last h, w .here) (as-one (coded k) _ _ _ _ (rw (w .last h) at l) (rw (w .here) at m))
 
 -- ---- fields
 

@@ -4,14 +4,14 @@ use mathlib.Core.Path.{_≡_}
 use mathlib.Core.Bool.{Bool, true, false, cond, not, _&&_}
 use mathlib.Core.List.{List}
 use lib.Dec.{eqb}
-use Rattle.optable.specs.Count.{seek}
+use Rattle.codes.specs.Count.{seek}
 use Rattle.optable.specs.Read.{count, codeAt, operationAt, errorAt, firstAt, secondAt, secondPart}
 use Rattle.optable.specs.Validity.{valid}
 use Rattle.optable.specs.Lookup.{operationOf, errorOf, listed, classOf, argumentOf, resultOf, known, parameterOf, joined, Extends}
 use Rattle.optable.specs.declared.Part.{Part}
 use Rattle.optable.specs.declared.Part.the-variants.{Operations, Errors, ErrorPairs, ChildPairs}
-use Rattle.optable.specs.declared.Place.{Place}
-use Rattle.optable.specs.declared.Place.the-variants.{At, Nowhere}
+use Rattle.codes.specs.declared.Place.{Place}
+use Rattle.codes.specs.declared.Place.the-variants.{At, Nowhere}
 use Rattle.optable.specs.declared.Rule.{Rule}
 use Rattle.optable.specs.declared.Operation.{Operation}
 use Rattle.optable.specs.declared.Error.{Error}

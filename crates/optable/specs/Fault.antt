@@ -4,13 +4,13 @@ use mathlib.Core.Bool.{Bool, true, false, cond, not}
 use mathlib.Core.List.{List}
 use lib.ListN.{length}
 use lib.Dec.{eqb, leb, ltb}
-use Rattle.optable.specs.Count.{seek}
+use Rattle.codes.specs.Count.{seek}
 use Rattle.optable.specs.Read.{count, start, classAt, flagsAt, argumentAt, resultAt, flagAt, parameterAt, firstAt, secondAt, secondPart}
 use Rattle.optable.specs.Validity.{withinLimit, behind, ruleRight, resultRight, allowed, fieldsRight, rises, entryRight}
 use Rattle.optable.specs.declared.Part.{Part}
 use Rattle.optable.specs.declared.Part.the-variants.{Operations, Errors, ErrorPairs, ChildPairs}
-use Rattle.optable.specs.declared.Place.{Place}
-use Rattle.optable.specs.declared.Place.the-variants.{At, Nowhere}
+use Rattle.codes.specs.declared.Place.{Place}
+use Rattle.codes.specs.declared.Place.the-variants.{At, Nowhere}
 use Rattle.optable.specs.declared.Rule.{Rule}
 use Rattle.optable.specs.declared.Breach.{Breach}
 use Rattle.optable.specs.declared.Breach.the-variants.{Unbroken, Class, Flags, ArgumentFlag, ArgumentType, ResultFlag, ResultType, ResultUnexpected, ParameterFlag, ParameterType, FirstIndex, SecondIndex, PairClass, Order}

@@ -1,5 +1,4 @@
 -- What a reader must believe of the operation table: document 01, 'Operation table'. Steps only serves proofs.
-pub mod Count
 pub mod Read
 pub mod Validity
 pub mod Fault

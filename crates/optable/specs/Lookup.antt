@@ -5,13 +5,13 @@ use mathlib.Core.Bool.{Bool, true, false, _&&_}
 use mathlib.Core.List.{List}
 use Rattle.records.specs.declared.Code.{Code}
 use Rattle.base.specs.Count.{every, any}
-use Rattle.optable.specs.Count.{seek}
+use Rattle.codes.specs.Count.{seek}
 use Rattle.optable.specs.Read.{count, hasCode, operationAt, errorAt, firstAt, secondAt, secondPart}
 use Rattle.optable.specs.Validity.{withinLimit, rises, valid}
 use Rattle.optable.specs.declared.Part.{Part}
 use Rattle.optable.specs.declared.Part.the-variants.{Operations, Errors, ErrorPairs, ChildPairs}
-use Rattle.optable.specs.declared.Place.{Place}
-use Rattle.optable.specs.declared.Place.the-variants.{At, Nowhere}
+use Rattle.codes.specs.declared.Place.{Place}
+use Rattle.codes.specs.declared.Place.the-variants.{At, Nowhere}
 use Rattle.optable.specs.declared.Rule.{Rule}
 use Rattle.optable.specs.declared.Operation.{Operation}
 use Rattle.optable.specs.declared.Operation.the-variants.{Listed, Unlisted}
@@ -126,6 +126,10 @@ Holds t k c Nowhere = Unit {0}
 pub record CodeAnswer {A : Type 0} (t : List ℕ) (k : Part) (c : Code) (read : Place → A) (r : A) : Type 0 where
   pub in-order : ordered t k ≡ true → r ≡ read (find t k c)
   pub in-any : (p : Place) × (Holds t k c p × (r ≡ read p))
+
+-- the place that is answered of a code
+abbrev pub PlaceOf : List ℕ → Part → Code → Place → Type 0
+PlaceOf t k c p = CodeAnswer t k c (λ q. q) p
 
 -- what is answered of a pair: in a valid table whether it is there; in any octets true only where it is
 pub record PairAnswer (t : List ℕ) (there r : Bool) : Type 0 where

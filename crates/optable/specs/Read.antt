@@ -3,7 +3,7 @@ use Prim.Native.Nat.{ℕ, _+_, _*_, _/_, _%_}
 use mathlib.Core.Bool.{Bool}
 use mathlib.Core.List.{List}
 use lib.ListN.{getD}
-use lib.Dec.{eqb, ltb}
+use lib.Dec.{eqb}
 use Rattle.base.specs.Octets.{u16, u32}
 use Rattle.records.specs.declared.Code.{Code}
 use Rattle.records.specs.Records.{sameCode}
@@ -100,13 +100,3 @@ secondPart Operations = Operations
 secondPart Errors = Operations
 secondPart ErrorPairs = Errors
 secondPart ChildPairs = Operations
-
--- ---- the order of codes
-
--- how many signed 32-bit numbers stand below the one with these two's complement bits
-abbrev pub rank : ℕ → ℕ
-rank x = (x + 2147483648) % 4294967296
-
--- the order of codes as signed numbers
-abbrev pub below : Code → Code → Bool
-below a b = ltb (rank (a .0)) (rank (b .0))

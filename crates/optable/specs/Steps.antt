@@ -1,11 +1,12 @@
 -- What only serves the proofs of parts: no promise of a public function rests on it.
-use Prim.Native.Nat.{ℕ, _+_, _-_, _≤_, _<_}
+use Prim.Native.Nat.{ℕ, _+_, _*_, _-_, _≤_, _<_}
 use mathlib.Core.Path.{_≡_}
 use mathlib.Core.Bool.{Bool, true, _&&_}
 use mathlib.Core.List.{List}
 use lib.ListN.{length}
 use lib.Dec.{eqb, leb}
-use Rattle.optable.specs.Read.{count, entryStart, sizeOf, firstAt, secondAt, secondPart}
+use Rattle.base.specs.Octets.{u16}
+use Rattle.optable.specs.Read.{count, entryStart, sizeOf, secondPart}
 use Rattle.optable.specs.Validity.{laidOut}
 use Rattle.optable.specs.declared.Part.{Part}
 use Rattle.optable.specs.declared.Part.the-variants.{Operations}
@@ -28,6 +29,10 @@ countsOf t k = record { operations = count t Operations; seconds = count t (seco
 
 -- ---- the search over pairs
 
--- pair i has this first index, and a second index from low up to high
-unfoldable pub pairWithin : List ℕ → Part → ℕ → ℕ → ℕ → ℕ → Bool
-pairWithin t k first low high i = eqb (firstAt t k i) first && (leb low (secondAt t k i) && leb (secondAt t k i) high)
+-- the pair at a place has this first index, and a second index from low up to high
+abbrev pub withinAt : List ℕ → ℕ → ℕ → ℕ → ℕ → Bool
+withinAt t at first low high = eqb (u16 t at) first && (leb low (u16 t (at + 2)) && leb (u16 t (at + 2)) high)
+
+-- so has pair i of those that start at from, with entries of this size
+unfoldable pub pairWithin : List ℕ → ℕ → ℕ → ℕ → ℕ → ℕ → ℕ → Bool
+pairWithin t from size first low high i = withinAt t (from + i * size) first low high

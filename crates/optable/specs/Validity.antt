@@ -5,7 +5,8 @@ use mathlib.Core.List.{List}
 use lib.ListN.{length}
 use lib.Dec.{eqb, leb, ltb}
 use Rattle.base.specs.Count.{every}
-use Rattle.optable.specs.Read.{count, start, entryStart, below, codeAt, classAt, flagsAt, argumentAt, resultAt, flagAt, parameterAt, firstAt, secondAt, secondPart}
+use Rattle.codes.specs.Order.{below}
+use Rattle.optable.specs.Read.{count, start, entryStart, codeAt, classAt, flagsAt, argumentAt, resultAt, flagAt, parameterAt, firstAt, secondAt, secondPart}
 use Rattle.optable.specs.declared.Part.{Part}
 use Rattle.optable.specs.declared.Part.the-variants.{Operations, Errors, ErrorPairs, ChildPairs}
 use Rattle.optable.specs.declared.Rule.{Rule}

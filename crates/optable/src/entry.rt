@@ -1,8 +1,9 @@
 // Which rule a part's entries break, each by itself and in their order.
 ghost use mathlib.Core.Path.{_≡_};
-ghost use mathlib.Core.Bool.{true};
+ghost use mathlib.Core.Bool.{true, cond};
 ghost use lib.ListN.{length};
 ghost use Prim.Native.Nat.{_-_, _≤_, _<_};
+ghost use Rattle.codes.specs.Order.{rank};
 ghost use Rattle.optable.specs.Validity.{laidOut, coded, above, rises};
 ghost use Rattle.optable.specs.Read.{count, classAt};
 ghost use Rattle.optable.specs.Fault.{pairBreach, fieldsBreach, entryBreach, firstWrong, entryFault};
@@ -16,12 +17,10 @@ use crate::fields::is_allowed;
 use crate::fields::operation_breach;
 use crate::read::count_within;
 use crate::read::four_within;
-use crate::read::is_below;
 use crate::read::second_part;
 use crate::read::size_of;
 use crate::read::start_within;
 use crate::read::two_within;
-use records::Code;
 
 // An entry that a walk has reached: its index, where it starts, and where the entry before it starts.
 struct Reached {
@@ -71,28 +70,33 @@ fn pair_breach(table: &[u8], part: Part, reached: Reached, counts: Counts) -> Br
     Breach::Unbroken
 }
 
-fn is_coded(part: Part) -> bool
-    ensures { λ r. ⌜ r ≡ coded part ⌝ }
+// What is added to the four octets that an entry starts with, so that they rise as numbers: codes rise as signed ones.
+fn shift_of(part: Part) -> u32
+    ensures { λ r. ⌜ r ≡ cond (coded part) 2147483648 0 ⌝ }
 {
     match part {
-        Part::Operations => true,
-        Part::Errors => true,
-        Part::ErrorPairs => false,
-        Part::ChildPairs => false,
+        Part::Operations => 0x8000_0000,
+        Part::Errors => 0x8000_0000,
+        Part::ErrorPairs => 0,
+        Part::ChildPairs => 0,
     }
 }
 
-// Whether an entry stands above the one before it. A pair's two numbers are compared as one of four octets.
+// A number that rises with the entries: the rank of a code, a pair as one number of four octets.
+fn order_of(part: Part, bits: u32) -> u32
+    ensures { λ r. ⌜ r ≡ cond (coded part) (rank bits) bits ⌝ }
+{
+    std::num::wrapping_add_u32(bits, shift_of(part))
+}
+
+// Whether an entry stands above the one before it.
 fn is_above(table: &[u8], part: Part, reached: Reached) -> bool
     requires { ⌜ Stands (now table) part reached × (1 ≤ reached .index) ⌝ }
     ensures { λ r. ⌜ r ≡ above (now (table .entry)) part (reached .index - 1) (reached .index) ⌝ }
 {
     let before = four_within(table, reached.before);
     let here = four_within(table, reached.at);
-    if is_coded(part) {
-        return is_below(Code(before), Code(here));
-    }
-    before < here
+    order_of(part, before) < order_of(part, here)
 }
 
 // Whether an entry is the first or stands above the one before it.

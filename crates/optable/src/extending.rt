@@ -2,6 +2,8 @@
 ghost use mathlib.Core.Path.{_≡_};
 ghost use mathlib.Core.Bool.{true, false};
 ghost use Rattle.optable.specs.Validity.{valid, coded};
+ghost use Rattle.optable.specs.Read.{secondPart};
+ghost use Rattle.optable.specs.Lookup.{PlaceOf};
 ghost use Rattle.optable.specs.Extension.{sameRule, sameOperation, sameError, pairIn, entryIn, complete, partExtension};
 use crate::Error;
 use crate::Extension;
@@ -9,8 +11,10 @@ use crate::Operation;
 use crate::Part;
 use crate::Rule;
 use crate::error_of;
-use crate::lookup::is_joined;
+use crate::lookup::is_joined_at;
 use crate::operation_of;
+use crate::places::error_place;
+use crate::places::operation_place;
 use crate::read::code_at;
 use crate::read::count;
 use crate::read::error_at;
@@ -18,6 +22,8 @@ use crate::read::first_at;
 use crate::read::operation_at;
 use crate::read::second_at;
 use crate::read::second_part;
+use codes::Place;
+use records::Code;
 
 impl Extension {
     pub fn is_complete(self) -> bool
@@ -68,6 +74,18 @@ fn is_same_error(a: Error, b: Error) -> bool
     is_same_rule(a.parameter(), b.parameter())
 }
 
+// Where the second of a pair stands.
+fn second_place(table: &[u8], part: Part, code: Code) -> Place
+    ensures { λ r. ⌜ PlaceOf (now (table .entry)) (secondPart part) code r ⌝ }
+{
+    match part {
+        Part::Operations => operation_place(table, code),
+        Part::Errors => operation_place(table, code),
+        Part::ErrorPairs => error_place(table, code),
+        Part::ChildPairs => operation_place(table, code),
+    }
+}
+
 // Whether pair `i` of the old table, read by codes, is in the new one.
 fn is_pair_in(new: &[u8], old: &[u8], part: Part, i: u16) -> bool
     requires { ⌜ (valid (now new) ≡ true) × (coded part ≡ false) ⌝ }
@@ -75,7 +93,12 @@ fn is_pair_in(new: &[u8], old: &[u8], part: Part, i: u16) -> bool
 {
     let first = code_at(old, Part::Operations, first_at(old, part, i));
     let second = code_at(old, second_part(part), second_at(old, part, i));
-    is_joined(new, part, first, second)
+    is_joined_at(
+        new,
+        part,
+        operation_place(new, first),
+        second_place(new, part, second),
+    )
 }
 
 // Whether entry `i` of the old table is in the new one.

@@ -12,15 +12,18 @@ mod entry;
 mod extending;
 mod fields;
 mod lookup;
+pub mod places;
 pub mod read;
 mod validity;
 
 use extending::part_extension;
-use lookup::find;
-use lookup::has_pair;
-use lookup::is_joined;
-use read::error_at;
-use read::operation_at;
+use places::error_in;
+use places::error_place;
+use places::has_child_at;
+use places::is_child_at;
+use places::is_paired_at;
+use places::operation_in;
+use places::operation_place;
 use records::Code;
 use validity::layout_fault;
 use validity::part_fault;
@@ -31,12 +34,6 @@ pub enum Part {
     Errors,
     ErrorPairs,
     ChildPairs,
-}
-
-// Where a code stands in its list.
-pub enum Place {
-    At(u16),
-    Nowhere,
 }
 
 // What a value must be: identifier 0 demands none, another is the value's first octet.
@@ -145,42 +142,41 @@ pub fn valid(table: &[u8]) -> bool
 pub fn operation_of(table: &[u8], code: Code) -> Operation
     ensures { λ r. ⌜ CodeAnswer (now (table .entry)) Part.Operations code (operationIn (now (table .entry))) r ⌝ }
 {
-    match find(table, Part::Operations, code) {
-        Place::At(i) => operation_at(table, i),
-        Place::Nowhere => Operation::Unlisted,
-    }
+    operation_in(table, operation_place(table, code))
 }
 
 pub fn error_of(table: &[u8], code: Code) -> Error
     ensures { λ r. ⌜ CodeAnswer (now (table .entry)) Part.Errors code (errorIn (now (table .entry))) r ⌝ }
 {
-    match find(table, Part::Errors, code) {
-        Place::At(i) => error_at(table, i),
-        Place::Nowhere => Error::Unknown,
-    }
+    error_in(table, error_place(table, code))
 }
 
 // Whether the table pairs an error with an operation.
 pub fn is_paired(table: &[u8], operation: Code, error: Code) -> bool
     ensures { λ r. ⌜ PairAnswer (now (table .entry)) (paired (now (table .entry)) operation error) r ⌝ }
 {
-    is_joined(table, Part::ErrorPairs, operation, error)
+    is_paired_at(
+        table,
+        operation_place(table, operation),
+        error_place(table, error),
+    )
 }
 
 // Whether an operation is a listed child of another.
 pub fn is_child(table: &[u8], parent: Code, child: Code) -> bool
     ensures { λ r. ⌜ PairAnswer (now (table .entry)) (childOf (now (table .entry)) parent child) r ⌝ }
 {
-    is_joined(table, Part::ChildPairs, parent, child)
+    is_child_at(
+        table,
+        operation_place(table, parent),
+        operation_place(table, child),
+    )
 }
 
 pub fn has_child(table: &[u8], parent: Code) -> bool
     ensures { λ r. ⌜ PairAnswer (now (table .entry)) (hasChild (now (table .entry)) parent) r ⌝ }
 {
-    match find(table, Part::Operations, parent) {
-        Place::At(i) => has_pair(table, Part::ChildPairs, i, 0, 65535),
-        Place::Nowhere => false,
-    }
+    has_child_at(table, operation_place(table, parent))
 }
 
 // Whether the new table extends the old one, and what is missing first where it does not.

@@ -3,13 +3,15 @@ ghost use mathlib.Core.Path.{_≡_};
 ghost use Prim.Native.Nat.{_+_, _<_, _≤_};
 ghost use lib.ListN.{length};
 ghost use Rattle.base.specs.Octets.{u16, u32};
-ghost use Rattle.optable.specs.Read.{headOf, sizeOf, count, start, entryStart, octetAt, codeAt, hasCode, operationAt, errorAt, firstAt, secondAt, secondPart, rank, below};
+ghost use Rattle.optable.specs.Read.{headOf, sizeOf, count, start, entryStart, octetAt, codeAt, operationAt, errorAt, firstAt, secondAt, secondPart};
 ghost use Rattle.optable.specs.Validity.{limitOf, behind};
 use crate::Error;
 use crate::Operation;
 use crate::Part;
 use crate::Rule;
+use base::octets::four;
 use base::octets::octet;
+use base::octets::two;
 use records::Code;
 
 // Two octets that the table has.
@@ -27,28 +29,6 @@ pub(crate) fn four_within(table: &[u8], at: usize) -> u32
 {
     let high = two_within(table, at);
     let low = two_within(table, at + 2);
-    (high as u32) * 65536 + (low as u32)
-}
-
-fn two(table: &[u8], at: usize) -> u16
-    requires { ⌜ at < 1048576 ⌝ }
-    ensures { λ r. ⌜ r ≡ u16 (now (table .entry)) at ⌝ }
-{
-    if at + 2 <= table.len() {
-        return two_within(table, at);
-    }
-    (octet(table, at) as u16) * 256
-}
-
-fn four(table: &[u8], at: usize) -> u32
-    requires { ⌜ at < 1048574 ⌝ }
-    ensures { λ r. ⌜ r ≡ u32 (now (table .entry)) at ⌝ }
-{
-    if at + 4 <= table.len() {
-        return four_within(table, at);
-    }
-    let high = two(table, at);
-    let low = two(table, at + 2);
     (high as u32) * 65536 + (low as u32)
 }
 
@@ -152,13 +132,6 @@ pub fn code_at(table: &[u8], part: Part, i: u16) -> Code
     Code(four(table, entry_start(table, part, i)))
 }
 
-pub(crate) fn has_code(table: &[u8], part: Part, code: Code, i: u16) -> bool
-    ensures { λ r. ⌜ r ≡ hasCode (now (table .entry)) part code i ⌝ }
-{
-    let there = code_at(table, part, i);
-    there.same(code)
-}
-
 pub fn first_at(table: &[u8], part: Part, i: u16) -> u16
     ensures { λ r. ⌜ r ≡ firstAt (now (table .entry)) part i ⌝ }
 {
@@ -198,17 +171,4 @@ pub fn error_at(table: &[u8], i: u16) -> Error
         identifier: octet(table, at + 4),
         optional: flag % 2 == 1,
     })
-}
-
-// How many signed numbers stand below the one with these two's complement bits.
-fn rank(bits: u32) -> u32
-    ensures { λ r. ⌜ r ≡ rank bits ⌝ }
-{
-    std::num::wrapping_add_u32(bits, 0x8000_0000)
-}
-
-pub(crate) fn is_below(a: Code, b: Code) -> bool
-    ensures { λ r. ⌜ r ≡ below a b ⌝ }
-{
-    rank(a.0) < rank(b.0)
 }

@@ -59,5 +59,8 @@ pub(crate) fn part_fault(table: &[u8], part: Part) -> Fault
     if !is_within_limit(table, part) {
         return Fault::Count(part);
     }
+    if count_within(table, part) == 0 {
+        return Fault::Nothing;
+    }
     first_wrong(table, part)
 }

@@ -34,7 +34,7 @@ use Rattle.protocol.specs.declared.Requested.{Requested}
 use Rattle.protocol.specs.declared.Outcome.{Outcome}
 use Rattle.protocol.specs.declared.Outcome.the-variants.{Accepted, Refused}
 use Rattle.protocol.specs.declared.Refusal.{Refusal}
-use Rattle.protocol.specs.Call.{Call, invoke, result, error, reject, forget, Answer, accepted, refused, stateAfter, writtenBy}
+use Rattle.protocol.specs.Call.{Call, invoke, result, error, reject, Answer, accepted, refused, stateAfter, writtenBy}
 use Rattle.protocol.specs.Perform.{perform}
 use Rattle.protocol.specs.Reading.{readOutcome, Written, RequestPromise}
 use Rattle.capture.specs.Entry.{sideOf, idOf}

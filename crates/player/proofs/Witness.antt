@@ -9,7 +9,7 @@ use Rattle.base.specs.Lists.{nonEmpty}
 use Rattle.ber.specs.Element.{constructed, restRight, elementsIn, elementWith, elementOf, sizeIn, size, fills, wellFormed, elementOctets}
 use Rattle.ber.specs.Integer.{signOf, pattern, integerOf, fitsOctets, octetCount, integerOctets}
 use Rattle.base.specs.Count.{every, any}
-use Rattle.optable.specs.Count.{seek}
+use Rattle.codes.specs.Count.{seek}
 use Rattle.optable.specs.Read.{count, start, entryStart, octetAt, codeAt, hasCode, operationAt, errorAt, firstAt, secondAt}
 use Rattle.optable.specs.Validity.{withinLimit, behind, laidOut, ruleRight, resultRight, operationRight, errorRight, pairBelow, pairRight, allowed, above, rises, fieldsRight, entryRight, partRight, valid}
 use Rattle.optable.specs.Lookup.{find, operationIn, operationOf, errorIn, errorOf, joins, joined, parentAt, hasChild}

@@ -10,7 +10,7 @@ use Rattle.base.specs.Lists.{nonEmpty}
 use Rattle.ber.specs.Element.{constructed, restRight, elementsIn, elementWith, elementOf, sizeIn, size, fills, wellFormed, elementOctets}
 use Rattle.ber.specs.Integer.{signOf, pattern, integerOf, fitsOctets, octetCount, integerOctets}
 use Rattle.base.specs.Count.{every, any}
-use Rattle.optable.specs.Count.{seek}
+use Rattle.codes.specs.Count.{seek}
 use Rattle.optable.specs.Read.{count, start, entryStart, octetAt, codeAt, hasCode, operationAt, errorAt, firstAt, secondAt}
 use Rattle.optable.specs.Validity.{withinLimit, behind, laidOut, ruleRight, resultRight, operationRight, errorRight, pairBelow, pairRight, allowed, above, rises, fieldsRight, entryRight, partRight, valid}
 use Rattle.optable.specs.Lookup.{Extends, known, find, operationIn, operationOf, errorIn, errorOf, joins, joined, parentAt, hasChild}
@@ -21,7 +21,7 @@ use Rattle.apdu.specs.Encode.{linkedField, rejectedField, valueField, bodyField
 use Rattle.protocol.specs.Check.{usable, valueWell, withinLimits}
 use Rattle.protocol.specs.Receive.{fault, invokeChecks, resultChecks, errorChecks, receiveApdu}
 use Rattle.protocol.specs.Perform.{laterChecks, done, perform}
-use Rattle.optable.specs.declared.Place.the-variants.{At, Nowhere}
+use Rattle.codes.specs.declared.Place.the-variants.{At, Nowhere}
 use Rattle.protocol.specs.Marked.{MarkedHold}
 use Rattle.protocol.specs.Book.{begin, final, Along, answerTo}
 use Rattle.protocol.specs.Demand3.{Fair, UsesIdsOnce}

@@ -1,8 +1,8 @@
 // The octets of a table: its entries one behind the other, and its header.
 use crate::entry::Entry;
 use crate::reason::Reason;
+use codes::Place;
 use optable::Part;
-use optable::Place;
 use optable::Rule;
 use optable::read::code_at;
 use optable::read::count;

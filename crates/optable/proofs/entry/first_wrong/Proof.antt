@@ -4,7 +4,7 @@ use native.Mathlib.Omega.{arith}
 use mathlib.Core.Path.{_≡_, _∙_}
 use mathlib.Core.Bool.{not}
 use Rattle.base.proofs.Tests.{said-no, said-yes}
-use Rattle.optable.specs.Count.{seek}
+use Rattle.codes.specs.Count.{seek}
 use Rattle.optable.specs.Read.{entryStart}
 use Rattle.optable.specs.Validity.{entryRight}
 use Rattle.optable.specs.Fault.{firstWrong}
