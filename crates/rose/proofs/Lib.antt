@@ -1,5 +1,6 @@
 mod Verdicts
 mod UsableAnswers
+mod WalkAnswers
 mod PartAnswers
 mod Arrivals
 mod Written

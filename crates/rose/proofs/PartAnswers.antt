@@ -1,18 +1,21 @@
 -- What the tests of a check say, as its definition asks it.
 use Prim.Native.Nat.{ℕ, _+_, _-_}
-use mathlib.Core.Path.{_≡_, refl, ap}
-use mathlib.Core.Bool.{Bool, true, false, not, _&&_}
+use mathlib.Core.Path.{_≡_, refl, sym, subst, ap, _∙_}
+use mathlib.Core.Bool.{Bool, true, false, not, _&&_, true≢false}
 use mathlib.Core.List.{List, [], _∷_}
 use mathlib.Core.Option.{Option, some, none}
 use native.Mathlib.Omega.{arith}
 use lib.ListN.{length}
 use lib.Dec.{leb}
-use borrow.Author.Tests.{leb-true, leb-false}
-use Rattle.records.specs.declared.Code.{Code}
+use borrow.Author.Tests.{leb-true, leb-false, not-false}
 use Rattle.records.specs.declared.Record.{Record}
+use Rattle.records.specs.declared.Found.{Found}
 use Rattle.records.specs.Limits.{levels}
 use Rattle.records.specs.Records.{member}
-use Rattle.optable.specs.Lookup.{operationOf, listed, errorOf, known, childOf, hasChild}
+use Rattle.optable.specs.declared.Part.the-variants.{Operations}
+use Rattle.codes.specs.declared.Place.the-variants.{At}
+use Rattle.optable.specs.Validity.{valid}
+use Rattle.optable.specs.Lookup.{operationOf, listed, errorOf, known, PlaceOf}
 use Rattle.base.specs.Lists.{nonEmpty}
 use Rattle.ber.specs.Element.{wellFormed}
 use Rattle.ber.proofs.Locality.{well-formed-more}
@@ -20,9 +23,9 @@ use Rattle.apdu.specs.declared.Number.{Number}
 use Rattle.apdu.specs.declared.Number.the-variants.{Of, Absent}
 use Rattle.apdu.specs.declared.CodeField.{CodeField}
 use Rattle.apdu.specs.declared.CodeField.the-variants.{Local, Other}
-use Rattle.protocol.specs.Check.{codeIn, isLinked, linkedTo, valueWell}
+use Rattle.protocol.specs.Check.{codeFound, codeIn, isLinked, linkedTo, valueWell}
 use Rattle.protocol.specs.Receive.{fieldCode, isOperation, isError}
-use Rattle.rose.specs.Steps.{isLocal, parentIn, missing, childless, noChild}
+use Rattle.rose.specs.Steps.{isFound, isLocal, foundBy, StandsAt}
 use Rattle.rose.proofs.UsableAnswers.{found-member}
 
 -- ---- a value, empty for none
@@ -66,14 +69,19 @@ error-is T Other = refl
 -- ---- a linked id's parent, among the records l
 
 module _ (l : List Record) where
-  pub missing-is : (n : Number) → missing (parentIn n l) ≡ (isLinked n && not (member (linkedTo n) l))
+  pub missing-is : (n : Number) → (isLinked n && not (isFound (foundBy n l))) ≡ (isLinked n && not (member (linkedTo n) l))
   missing-is Absent = refl
   missing-is (Of i) = ap not (found-member i l)
 
-  pub childless-is : (T : List ℕ) (n : Number) → childless T (parentIn n l) ≡ (isLinked n && not (hasChild T (codeIn l (linkedTo n))))
-  childless-is T Absent = refl
-  childless-is T (Of i) = refl
+-- the table is valid, and the operation of a linked id stands at entry m
+pub record Parented (T : List ℕ) (l : List Record) (n : Number) (m : ℕ) : Type 0 where
+  pub valid : valid T ≡ true
+  pub place : isLinked n ≡ true → PlaceOf T Operations (codeIn l (linkedTo n)) (At m)
 
-  pub no-child-is : (T : List ℕ) (n : Number) (c : Code) → noChild T (parentIn n l) c ≡ (isLinked n && not (childOf T (codeIn l (linkedTo n)) c))
-  no-child-is T Absent c = refl
-  no-child-is T (Of i) c = refl
+-- so it is behind the check that a linked id is among the records
+pub parented : (T : List ℕ) (l : List Record) (n : Number) (m : ℕ) (f : Found) → f ≡ foundBy n l → valid T ≡ true → StandsAt T f m → (isLinked n && not (member (linkedTo n) l)) ≡ false → Parented T l n m
+parented T l n m f e v w h = record { valid = v; place = stands n e h }
+  where
+    stands : (n : Number) → f ≡ foundBy n l → (isLinked n && not (member (linkedTo n) l)) ≡ false → isLinked n ≡ true → PlaceOf T Operations (codeIn l (linkedTo n)) (At m)
+    stands Absent e h p = absurd (true≢false (sym p))
+    stands (Of i) e h p = subst (λ (g : Found). PlaceOf T Operations (codeFound g) (At m)) e (w (ap isFound e ∙ found-member i l ∙ not-false _ h))

@@ -6,6 +6,7 @@ use native.Mathlib.Omega.{arith}
 use lib.ListN.{length}
 use borrow.Author.Tests.{ltb-false}
 use Rattle.records.specs.declared.State.{State}
+use Rattle.records.specs.Limits.{octets}
 use Rattle.apdu.specs.Parse.{parse}
 use Rattle.apdu.proofs.SizeLaws.{reject-most}
 use Rattle.protocol.specs.declared.Reception.{Reception}
@@ -49,6 +50,11 @@ module _ (T : List ℕ) (s : State) (x before : List ℕ) (v : Verdict) (g : Jud
   room : leastRoom ≤ length before
   unfolding laterChecks
   room = ltb-false (length before) leastRoom (passed (checks T s (receive x (length before))) (all-pass T s (receive x (length before)) v g o) 2)
+
+  -- the APDU is not too long to be parsed
+  pub short : length x ≤ octets
+  unfolding laterChecks
+  short = ltb-false octets (length x) (passed (checks T s (receive x (length before))) (all-pass T s (receive x (length before)) v g o) 3)
 
   -- t is the state as z changes it
   module _ (z : Arrival) (a : Arrives T s x (parse x) z) (t : State) (e : t ≡ after s (z .change)) (out : List ℕ) (n : ℕ) (w : RefusalWritten (z .reception) before out n) where

@@ -1,24 +1,29 @@
--- What each way through the code of usable.rt answers.
-use Prim.Native.Nat.{ℕ, _+_, _≤_, _<_}
-use mathlib.Core.Path.{_≡_, refl, sym, ap, _∙_}
-use mathlib.Core.Bool.{Bool, true, false, cond, _&&_, _||_}
-use mathlib.Core.List.{List, [], _∷_}
-use lib.ListN.{length, drop, drop-of-length-le}
+-- What each way through the code of usable.rt answers: the record that was found, where its operation stands, and a record more.
+use Prim.Native.Nat.{ℕ}
+use mathlib.Core.Path.{_≡_, refl, sym, subst, ap, _∙_}
+use mathlib.Core.Logic.{_⊎_, inl, inr}
+use mathlib.Core.Bool.{Bool, true, false, cond, not, _||_, true≢false}
+use mathlib.Core.List.{List, [], _∷_, _++_}
 use lib.Dec.{eqb}
-use borrow.Author.Tests.{eq-eqb, ne-eqb}
-use Rattle.base.proofs.Tests.{cond-true, cond-false}
+use borrow.Author.Tests.{eq-eqb, ne-eqb, not-false}
+use Rattle.base.proofs.Tests.{cond-true, cond-false, or-true-left, or-true-right, or-cases}
 use Rattle.records.specs.declared.Code.{Code}
 use Rattle.records.specs.declared.Record.{Record}
-use Rattle.records.specs.declared.Records.{Records}
 use Rattle.records.specs.declared.State.{State}
+use Rattle.records.specs.declared.Found.{Found}
 use Rattle.records.specs.declared.Found.the-variants.{Operation}
-use Rattle.records.specs.Records.{view, member, lookup}
-use Rattle.records.proofs.Steps.{here, left-at}
-use Rattle.optable.specs.declared.Operation.{Operation as Named}
+use Rattle.records.specs.Records.{sameCode, member, lookup}
+use Rattle.optable.specs.declared.Part.the-variants.{Operations}
+use Rattle.codes.specs.declared.Place.the-variants.{At}
+use Rattle.optable.specs.Read.{operationAt}
 use Rattle.optable.specs.Validity.{valid}
-use Rattle.optable.specs.Lookup.{operationOf, listed, classOf}
-use Rattle.protocol.specs.Check.{covered, usable, isBusy, isSilent, ownRecords, peerRecords}
-use Rattle.rose.specs.Steps.{isFound}
+use Rattle.optable.specs.Lookup.{operationIn, operationOf, classOf, PlaceOf}
+use Rattle.optable.proofs.TableLaws.{operation-there}
+use Rattle.protocol.specs.Check.{codeFound, isSilent, ownRecords, peerRecords}
+use Rattle.rose.specs.declared.usable.Opening.{Opening}
+use Rattle.rose.specs.declared.usable.Sought.{Sought}
+use Rattle.rose.specs.declared.usable.Sought.the-variants.{Own as OwnOne, Peer as PeerOne, Nothing as NoOne}
+use Rattle.rose.specs.Steps.{isFound, live, invoked, soughtIn, StandsAt, Opens}
 
 -- ---- a record found is a member
 
@@ -30,42 +35,58 @@ found-member n (r ∷ l) = go (eqb (r .id) n) (found-member n l)
     go true ih = refl
     go false ih = ih
 
--- ---- one turn of the loops over a side, o being the operation of the record at i
-
-module _ (T : List ℕ) (s : Records) (i : ℕ) (p : i < length (view s)) (o : Named) (e : o ≡ operationOf T (here s i .code)) where
-  covered-at : covered T (drop i (view s)) ≡ (listed o && covered T (drop (i + 1) (view s)))
-  covered-at = ap (covered T) (left-at s i p) ∙ ap (λ (n : Named). listed n && covered T (drop (i + 1) (view s))) (sym e)
-
-  pub covered-not : listed o ≡ false → covered T (drop i (view s)) ≡ false
-  covered-not h = covered-at ∙ ap (λ (b : Bool). b && covered T (drop (i + 1) (view s))) h
-
-  pub covered-next : listed o ≡ true → covered T (drop i (view s)) ≡ covered T (drop (i + 1) (view s))
-  covered-next h = covered-at ∙ ap (λ (b : Bool). b && covered T (drop (i + 1) (view s))) h
-
-  busy-at : isBusy T (drop i (view s)) ≡ (eqb (classOf o) 1 || isBusy T (drop (i + 1) (view s)))
-  busy-at = ap (isBusy T) (left-at s i p) ∙ ap (λ (n : Named). eqb (classOf n) 1 || isBusy T (drop (i + 1) (view s))) (sym e)
-
-  pub busy-here : classOf o ≡ 1 → isBusy T (drop i (view s)) ≡ true
-  busy-here h = busy-at ∙ ap (λ (b : Bool). b || isBusy T (drop (i + 1) (view s))) (eq-eqb (classOf o) 1 h)
-
-  pub busy-next : (classOf o ≡ 1 → ⊥) → isBusy T (drop i (view s)) ≡ isBusy T (drop (i + 1) (view s))
-  busy-next h = busy-at ∙ ap (λ (b : Bool). b || isBusy T (drop (i + 1) (view s))) (ne-eqb (classOf o) 1 h)
-
-pub covered-end : (T : List ℕ) (l : List Record) (i : ℕ) → length l ≤ i → covered T (drop i l) ≡ true
-covered-end T l i h = ap (covered T) (drop-of-length-le l h)
-
-pub busy-end : (T : List ℕ) (l : List Record) (i : ℕ) → length l ≤ i → isBusy T (drop i l) ≡ false
-busy-end T l i h = ap (isBusy T) (drop-of-length-le l h)
-
--- ---- 1, which asks for the records only where the table is valid
-
-pub usable-is : (T : List ℕ) (s : State) (a b : Bool) → (valid T ≡ true → a ≡ covered T (ownRecords s)) → (valid T ≡ true → b ≡ covered T (peerRecords s)) → (valid T && (a && b)) ≡ usable T s
-unfolding usable
-usable-is T s a b p q = go (valid T) p q
+-- its code is that of a record
+pub found-invoked : (n : ℕ) (l : List Record) → isFound (lookup n l) ≡ true → invoked (codeFound (lookup n l)) l ≡ true
+found-invoked n [] h = absurd (true≢false (sym h))
+found-invoked n (r ∷ l) h = go (eqb (r .id) n) h (found-invoked n l)
   where
-    go : (v : Bool) → (v ≡ true → a ≡ covered T (ownRecords s)) → (v ≡ true → b ≡ covered T (peerRecords s)) → (v && (a && b)) ≡ (v && (covered T (ownRecords s) && covered T (peerRecords s)))
-    go true x y = rw (x refl, y refl) refl
-    go false x y = refl
+    at : Bool → Found
+    at b = cond b (Operation (r .code)) (lookup n l)
+
+    go : (b : Bool) → isFound (at b) ≡ true → (isFound (lookup n l) ≡ true → invoked (codeFound (lookup n l)) l ≡ true) → (sameCode (r .code) (codeFound (at b)) || invoked (codeFound (at b)) l) ≡ true
+    go true h ih = or-true-left (sameCode (r .code) (r .code)) (invoked (r .code) l) (eq-eqb (r .code .0) (r .code .0) refl)
+    go false h ih = or-true-right (sameCode (r .code) (codeFound (lookup n l))) (invoked (codeFound (lookup n l)) l) (ih h)
+
+invoked-before : (c : Code) (k l : List Record) → invoked c k ≡ true → invoked c (k ++ l) ≡ true
+invoked-before c [] l h = absurd (true≢false (sym h))
+invoked-before c (r ∷ k) l h = go (or-cases (sameCode (r .code) c) (invoked c k) h) (invoked-before c k l)
+  where
+    go : (sameCode (r .code) c ≡ true) ⊎ (invoked c k ≡ true) → (invoked c k ≡ true → invoked c (k ++ l) ≡ true) → (sameCode (r .code) c || invoked c (k ++ l)) ≡ true
+    go (inl e) ih = or-true-left (sameCode (r .code) c) (invoked c (k ++ l)) e
+    go (inr e) ih = or-true-right (sameCode (r .code) c) (invoked c (k ++ l)) (ih e)
+
+invoked-behind : (c : Code) (k l : List Record) → invoked c l ≡ true → invoked c (k ++ l) ≡ true
+invoked-behind c [] l h = h
+invoked-behind c (r ∷ k) l h = or-true-right (sameCode (r .code) c) (invoked c (k ++ l)) (invoked-behind c k l h)
+
+-- the record that was sought is one of the live ones
+sought-invoked : (s : State) (q : Sought) → isFound (soughtIn s q) ≡ true → invoked (codeFound (soughtIn s q)) (live s) ≡ true
+sought-invoked s (OwnOne i) h = invoked-before (codeFound (lookup (i .0) (ownRecords s))) (ownRecords s) (peerRecords s) (found-invoked (i .0) (ownRecords s) h)
+sought-invoked s (PeerOne i) h = invoked-behind (codeFound (lookup (i .0) (peerRecords s))) (ownRecords s) (peerRecords s) (found-invoked (i .0) (peerRecords s) h)
+sought-invoked s NoOne h = absurd (true≢false (sym h))
+
+-- its operation stands where the walk says
+pub sought-stands : (T : List ℕ) (s : State) (q : Sought) (f : Found) → f ≡ soughtIn s q → (c : Code) → c ≡ codeFound f → (n : ℕ) → (invoked c (live s) ≡ true → PlaceOf T Operations c (At n)) → StandsAt T f n
+sought-stands T s q f e c g n w h =
+    let i : invoked (codeFound f) (live s) ≡ true = subst (λ (x : Found). invoked (codeFound x) (live s) ≡ true) (sym e) (sought-invoked s q (ap isFound (sym e) ∙ h)) in
+    subst (λ (d : Code). PlaceOf T Operations d (At n)) g (w (subst (λ (d : Code). invoked d (live s) ≡ true) (sym g) i))
+
+-- the record that was sought, said otherwise
+pub opens-as : (T : List ℕ) (s : State) (k j : ℕ) (f g : Found) (o : Opening) → k ≡ j → f ≡ g → Opens T s k f o → Opens T s j g o
+opens-as T s k j f g o e h w = subst (λ (n : ℕ). Opens T s n g o) e (subst (λ (x : Found). Opens T s k x o) h w)
+
+-- a record was found, and its operation stands at entry n of a valid table
+pub record Settled (T : List ℕ) (f : Found) (n : ℕ) : Type 0 where
+  pub valid : valid T ≡ true
+  pub operation : operationAt T n ≡ operationOf T (codeFound f)
+  pub place : PlaceOf T Operations (codeFound f) (At n)
+
+-- so it is behind the check that the id is among the records
+pub settled : (T : List ℕ) (f : Found) (n i : ℕ) (l : List Record) → f ≡ lookup i l → (valid T ≡ true) × StandsAt T f n → not (member i l) ≡ false → Settled T f n
+unfolding operationIn
+settled T f n i l e h p =
+    let w = h .1 (ap isFound e ∙ found-member i l ∙ not-false _ p) in
+    record { valid = h .0; operation = operation-there T (h .0) (codeFound f) (At n) w; place = w }
 
 -- ---- a record more, unless the class makes none
 

@@ -69,9 +69,19 @@ pub checks-valid : (T : List ℕ) (s : State) (c : Call) → Pass (checks T s c)
 unfolding usable
 checks-valid T s c p = and-left (valid T) _ (not-false _ (passed (checks T s c) p 1))
 
-opened-valid : (T : List ℕ) (s : State) → first (shared T s) ≡ none → valid T ≡ true
+-- where 19 and 1 pass, the table may be used
+pub opened-usable : (T : List ℕ) (s : State) (v : Verdict) → Opened T s v → v ≡ Passes → usable T s ≡ true
+opened-usable T s v o e = not-false _ (passed (shared T s) (none-passes (shared T s) (verdict-passes plain v (shared T s) o e)) 1)
+
+-- a call whose checks pass has passed 19 and 1
+pub opened-passes : (T : List ℕ) (s : State) (c : Call) (v : Verdict) → Opened T s v → Pass (checks T s c) → v ≡ Passes
+unfolding readVerdict
+opened-passes T s c Passes o p = refl
+opened-passes T s c (Fails n) o p = some-none (o ∙ rw (passed (checks T s c) p 19, passed (checks T s c) p 1) refl)
+
+opened-valid : (T : List ℕ) (s : State) (v : Verdict) → Opened T s v → v ≡ Passes → valid T ≡ true
 unfolding usable
-opened-valid T s e = and-left (valid T) _ (not-false _ (passed (shared T s) (none-passes (shared T s) e) 1))
+opened-valid T s v o e = and-left (valid T) _ (opened-usable T s v o e)
 
 -- ---- a list of checks that are made one by one
 
@@ -91,28 +101,36 @@ last {P} {F} {r} = record { says = λ _. or-none (readVerdict F r) }
 fails-first : {P : Type 0} {m : ℕ} → Fails m ≡ Passes → P
 fails-first e = let z : _≡_ {A = ℕ} 0 1 = cc in absurd (omega arith)
 
-next-check : {P : Type 0} (F : ℕ → Refusal) (v w r : Verdict) (cs : List Check) (fails b : Bool) (n : ℕ) → w ≡ oneMore v fails n → (P → fails ≡ b) → Rest P F w cs r → (v ≡ Passes → P)
+passed-check : (fails : Bool) (n : ℕ) → cond fails (Fails n) Passes ≡ Passes → fails ≡ false
+passed-check true n e = fails-first e
+passed-check false n e = refl
+
+next-check : {P Q : Type 0} (F : ℕ → Refusal) (v w r : Verdict) (cs : List Check) (fails b : Bool) (n : ℕ) → w ≡ oneMore v fails n → (P → fails ≡ b) → (P → b ≡ false → Q) → Rest Q F w cs r → (v ≡ Passes → P)
     → readVerdict F r ≡ orElse (readVerdict F v) (cond b (some (F n)) (first cs))
 unfolding readVerdict oneMore orElse
-next-check F Passes w r cs fails b n e q l k = l .says (λ _. k refl) ∙ ap (λ (x : Verdict). orElse (readVerdict F x) (first cs)) e ∙ rw (q (k refl)) (decides b)
+next-check F Passes w r cs fails b n e q m l k = l .says (λ z. m (k refl) (sym (q (k refl)) ∙ passed-check fails n (sym e ∙ z))) ∙ ap (λ (x : Verdict). orElse (readVerdict F x) (first cs)) e ∙ rw (q (k refl)) (decides b)
   where
     decides : (b : Bool) → orElse (readVerdict F (cond b (Fails n) Passes)) (first cs) ≡ cond b (some (F n)) (first cs)
     decides true = refl
     decides false = refl
-next-check F (Fails m) w r cs fails b n e q l k = l .says (λ z. fails-first (sym e ∙ z)) ∙ ap (λ (x : Verdict). orElse (readVerdict F x) (first cs)) e
+next-check F (Fails j) w r cs fails b n e q m l k = l .says (λ z. fails-first (sym e ∙ z)) ∙ ap (λ (x : Verdict). orElse (readVerdict F x) (first cs)) e
 
--- one check is made, whose test is the definition's where P holds
+-- one check is made, whose test is the definition's where P holds; where it passes, Q holds
+pub made-so : {P Q : Type 0} {F : ℕ → Refusal} {v w r : Verdict} {cs : List Check} {fails b : Bool} {n : ℕ} → w ≡ oneMore v fails n → (P → fails ≡ b) → (P → b ≡ false → Q) → Rest Q F w cs r → Rest P F v (record { why = F n; fails = b } ∷ cs) r
+made-so {P} {Q} {F} {v} {w} {r} {cs} {fails} {b} {n} e q m l = record { says = next-check F v w r cs fails b n e q m l }
+
+-- one check is made, and P goes on
 pub made : {P : Type 0} {F : ℕ → Refusal} {v w r : Verdict} {cs : List Check} {fails b : Bool} {n : ℕ} → w ≡ oneMore v fails n → (P → fails ≡ b) → Rest P F w cs r → Rest P F v (record { why = F n; fails = b } ∷ cs) r
-made {P} {F} {v} {w} {r} {cs} {fails} {b} {n} e q l = record { says = next-check F v w r cs fails b n e q l }
+made e q l = made-so e q (λ p _. p) l
 
 -- a list from its start
 pub all : {P : Type 0} (F : ℕ → Refusal) (cs : List Check) (r : Verdict) → P → Rest P F Passes cs r → readVerdict F r ≡ first cs
 unfolding readVerdict orElse
 all F cs r p l = l .says (λ _. p)
 
--- a call's list behind 19 and 1; where these pass the table is valid
-pub judged : (T : List ℕ) (s : State) (c : Call) (v r : Verdict) → Opened T s v → Rest (valid T ≡ true) plain v (laterChecks T s c) r → Judged T s c r
-judged T s c v r o l = l .says (λ e. opened-valid T s (verdict-passes plain v (shared T s) o e)) ∙ ap (λ (f : Option Refusal). orElse f (first (laterChecks T s c))) o ∙ sym (first-append (shared T s) (laterChecks T s c))
+-- a call's list behind 19 and 1; where these pass the table is valid, and Q holds
+pub judged : {Q : Type 0} (T : List ℕ) (s : State) (c : Call) (v r : Verdict) → Opened T s v → (v ≡ Passes → Q) → Rest ((valid T ≡ true) × Q) plain v (laterChecks T s c) r → Judged T s c r
+judged T s c v r o q l = l .says (λ e. (opened-valid T s v o e, q e)) ∙ ap (λ (f : Option Refusal). orElse f (first (laterChecks T s c))) o ∙ sym (first-append (shared T s) (laterChecks T s c))
 
 -- ---- each check of a request gives a refusal's number
 

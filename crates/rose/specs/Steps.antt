@@ -2,7 +2,7 @@
 -- promise what crate protocol defines.
 use Prim.Native.Nat.{ℕ, _≤_}
 use mathlib.Core.Path.{_≡_}
-use mathlib.Core.Bool.{Bool, true, false, cond, not, _&&_, _||_}
+use mathlib.Core.Bool.{Bool, true, false, cond, _&&_, _||_}
 use mathlib.Core.List.{List, [], _∷_, _++_}
 use mathlib.Core.Option.{Option, some, none}
 use Rattle.records.specs.declared.Records.{Records}
@@ -11,14 +11,17 @@ use Rattle.records.specs.declared.Found.{Found}
 use Rattle.records.specs.declared.Found.the-variants.{Operation, Nothing}
 use Rattle.records.specs.declared.Code.{Code}
 use Rattle.records.specs.declared.Record.{Record}
-use Rattle.records.specs.Records.{lookup}
-use Rattle.optable.specs.Lookup.{hasChild, childOf}
+use Rattle.records.specs.Records.{sameCode, lookup}
+use Rattle.optable.specs.declared.Part.the-variants.{Operations}
+use Rattle.codes.specs.declared.Place.the-variants.{At}
+use Rattle.optable.specs.Validity.{valid}
+use Rattle.optable.specs.Lookup.{PlaceOf}
 use Rattle.apdu.specs.declared.Number.{Number}
 use Rattle.apdu.specs.declared.Number.the-variants.{Of, Absent}
 use Rattle.apdu.specs.declared.CodeField.{CodeField}
 use Rattle.apdu.specs.declared.CodeField.the-variants.{Local, Other}
-use Rattle.apdu.specs.Parse.{Apdu}
-use lib.ListN.{length, drop}
+use Rattle.apdu.specs.Parse.{Apdu, badlyStructured, unrecognized, mistyped, invoke, result, error, reject}
+use lib.ListN.{length, take, drop}
 use lib.Dec.{eqb, leb}
 use Rattle.records.specs.State.{addPeer, retireOwn, retirePeer}
 use Rattle.protocol.specs.declared.Invocation.{Invocation}
@@ -29,14 +32,16 @@ use Rattle.protocol.specs.declared.Outcome.the-variants.{Accepted}
 use Rattle.protocol.specs.declared.Requested.{Requested}
 use Rattle.protocol.specs.declared.Received.{Received}
 use Rattle.protocol.specs.Call.{Call, Answer, Refusal, plain, refused, rejectWritten, stateAfter}
-use Rattle.protocol.specs.Check.{Check, codeFound, shared}
+use Rattle.protocol.specs.Check.{Check, codeFound, ownRecords, peerRecords, covered, isBusy, shared}
 use Rattle.protocol.specs.Perform.{checks}
 use Rattle.protocol.specs.Receive.{receiveApdu}
 use Rattle.protocol.specs.Reading.{readRefusal, readReception, readOutcome}
 use Rattle.rose.specs.declared.verdict.Verdict.{Verdict}
 use Rattle.rose.specs.declared.verdict.Verdict.the-variants.{Passes, Fails}
-use Rattle.rose.specs.declared.usable.Parent.{Parent}
-use Rattle.rose.specs.declared.usable.Parent.the-variants.{Unlinked, Linked}
+use Rattle.rose.specs.declared.walking.Walk.{Walk}
+use Rattle.rose.specs.declared.usable.Opening.{Opening}
+use Rattle.rose.specs.declared.usable.Sought.{Sought}
+use Rattle.rose.specs.declared.usable.Sought.the-variants.{Own as OwnOne, Peer as PeerOne, Nothing as NoOne}
 use Rattle.rose.specs.declared.arrival.Arrival.{Arrival}
 use Rattle.rose.specs.declared.change.Change.{Change}
 use Rattle.rose.specs.declared.change.Change.the-variants.{Unchanged, Adds, Retires}
@@ -83,31 +88,67 @@ pub record Answers (x : List ℕ) (s : State) (a : Answer) (r : Arrival) : Type 
 abbrev pub Arrives : List ℕ → State → List ℕ → Apdu → Arrival → Type 0
 Arrives T s x p r = Answers x s (receiveApdu T s x p) r
 
+-- ---- records that were found, and the operations of records
+
 abbrev pub isFound : Found → Bool
 isFound (Operation c) = true
 isFound Nothing = false
+
+-- the live records of both sides, own before peer
+abbrev pub live : State → List Record
+live s = ownRecords s ++ peerRecords s
+
+-- some record is of an operation with the code
+abbrev pub invoked : Code → List Record → Bool
+invoked c [] = false
+invoked c (r ∷ l) = sameCode (r .code) c || invoked c l
+
+-- what a walk over the records l tells: whether the table has each code, whether one of the first so many is of class 1, and where the code's operation stands
+pub record Walked (T : List ℕ) (l : List Record) (asked : ℕ) (c : Code) (w : Walk) : Type 0 where
+  pub covered : valid T ≡ true → w .covered ≡ covered T l
+  pub busy : valid T ≡ true → w .covered ≡ true → w .busy ≡ isBusy T (take asked l)
+  pub entry : w .covered ≡ true → invoked c l ≡ true → PlaceOf T Operations c (At (w .entry))
+
+-- the record that is sought
+abbrev pub soughtIn : State → Sought → Found
+soughtIn s (OwnOne i) = lookup (i .0) (ownRecords s)
+soughtIn s (PeerOne i) = lookup (i .0) (peerRecords s)
+soughtIn s NoOne = Nothing
+
+-- the operation of a record that was found stands at entry n
+abbrev pub StandsAt : List ℕ → Found → ℕ → Type 0
+StandsAt T f n = isFound f ≡ true → PlaceOf T Operations (codeFound f) (At n)
+
+-- the verdict on 19 and 1, the record f that was sought, and what the walk told where they pass
+pub record Opens (T : List ℕ) (s : State) (asked : ℕ) (f : Found) (o : Opening) : Type 0 where
+  pub verdict : Opened T s (o .verdict)
+  pub found : o .found ≡ f
+  pub busy : o .verdict ≡ Passes → o .busy ≡ isBusy T (take asked (live s))
+  pub stands : o .verdict ≡ Passes → StandsAt T (o .found) (o .entry)
 
 abbrev pub isLocal : CodeField → Bool
 isLocal (Local c) = true
 isLocal Other = false
 
--- ---- a linked id's parent
+-- the record of an id that may be missing
+abbrev pub foundBy : Number → List Record → Found
+foundBy Absent l = Nothing
+foundBy (Of i) l = lookup i l
 
-abbrev pub parentIn : Number → List Record → Parent
-parentIn Absent l = Unlinked
-parentIn (Of i) l = Linked (lookup i l)
+-- the own record that a received APDU leads to: the parent of an Invoke, the invocation of a Result or an Error
+abbrev pub leadsTo : Apdu → List Record → Found
+leadsTo badlyStructured l = Nothing
+leadsTo unrecognized l = Nothing
+leadsTo (mistyped i) l = Nothing
+leadsTo (invoke i n c v) l = foundBy n l
+leadsTo (result i b) l = lookup i l
+leadsTo (error i c v) l = lookup i l
+leadsTo (reject i kind p) l = Nothing
 
-abbrev pub missing : Parent → Bool
-missing Unlinked = false
-missing (Linked f) = not (isFound f)
-
-abbrev pub childless : List ℕ → Parent → Bool
-childless T Unlinked = false
-childless T (Linked f) = not (hasChild T (codeFound f))
-
-abbrev pub noChild : List ℕ → Parent → Code → Bool
-noChild T Unlinked c = false
-noChild T (Linked f) c = not (childOf T (codeFound f) c)
+-- the record of an invocation
+abbrev pub invocationIn : State → Invocation → Found
+invocationIn s (Own i) = lookup (i .0) (ownRecords s)
+invocationIn s (Peer i) = lookup (i .0) (peerRecords s)
 
 -- ---- answers
 

@@ -5,10 +5,8 @@ use crate::problem::check_error;
 use crate::problem::check_invoke;
 use crate::problem::check_result;
 use crate::problem::field_code;
-use crate::usable::Parent;
+use crate::usable::Opening;
 use crate::usable::code_found;
-use crate::usable::operation_named;
-use crate::usable::own_parent;
 use crate::verdict::Verdict;
 use apdu::Body;
 use apdu::CodeField;
@@ -16,14 +14,14 @@ use apdu::Number;
 use apdu::OwnLink;
 use apdu::Parsed;
 use apdu::Value;
+use optable::places::operation_in;
+use optable::places::operation_place;
 use protocol::Indication;
 use protocol::Reception;
 use protocol::Refusal;
-use records::Found;
 use records::OwnId;
 use records::PeerId;
 use records::State;
-use records::lent::own_found;
 ghost use mathlib.Core.Path.{_≡_};
 ghost use mathlib.Core.Bool.{true};
 ghost use mathlib.Core.List.{List};
@@ -41,13 +39,14 @@ ghost use Rattle.protocol.specs.Call.{receive, refused};
 ghost use Rattle.protocol.specs.Check.{ownRecords};
 ghost use Rattle.protocol.specs.Receive.{fault};
 ghost use Rattle.rose.specs.declared.change.Change.the-variants.{Unchanged};
-ghost use Rattle.rose.specs.Steps.{both, parentIn, Opened, Judged, Answers, Arrives};
+ghost use Rattle.rose.specs.Steps.{both, foundBy, leadsTo, StandsAt, Opened, Judged, Answers, Arrives};
 
 // The checks of receive behind 19 and 1.
-pub(crate) fn check_receive(opened: Verdict, octets: usize, room: usize) -> Verdict
-    ensures { λ r. ⌜ ((T : List ℕ) (s : State) (x : List ℕ) → Opened T s opened → octets ≡ length x → Judged T s (receive x room) r) ⌝ }
+pub(crate) fn check_receive(opened: Opening, octets: usize, room: usize) -> Verdict
+    ensures { λ r. ⌜ ((T : List ℕ) (s : State) (x : List ℕ) → Opened T s (opened .verdict) → octets ≡ length x → Judged T s (receive x room) r) ⌝ }
 {
-    opened.then(octets > State::OCTETS, 3).then(room < 11, 2)
+    let verdict = opened.verdict;
+    verdict.then(octets > State::OCTETS, 3).then(room < 11, 2)
 }
 
 // What becomes of a received APDU.
@@ -116,7 +115,7 @@ fn arrive_wrong(x: &[u8], number: u8, id: Number) -> Arrival
 }
 
 fn arrive_invoke(
-    parent: Parent,
+    opened: Opening,
     count: usize,
     ids: &[u32; State::RECORDS],
     table: &[u8],
@@ -126,12 +125,23 @@ fn arrive_invoke(
     field: CodeField,
     value: Value,
 ) -> Arrival
-    requires { ⌜ valid (now table) ≡ true ⌝ }
-    ensures { λ r. ⌜ ((own : Records) (codes : List ℕ) → parent ≡ parentIn (readOwnLink linked) (view own) → Arrives (now (table .entry)) (both own (lent count (now (ids .entry)) codes)) (now (x .entry)) (invoke (id .0) (readOwnLink linked) field (readValue (now (x .entry)) value)) r) ⌝ }
+    requires { ⌜ (valid (now table) ≡ true) × StandsAt (now table) (opened .found) (opened .entry) ⌝ }
+    ensures { λ r. ⌜ ((own : Records) (codes : List ℕ) → opened .found ≡ foundBy (readOwnLink linked) (view own) → Arrives (now (table .entry)) (both own (lent count (now (ids .entry)) codes)) (now (x .entry)) (invoke (id .0) (readOwnLink linked) field (readValue (now (x .entry)) value)) r) ⌝ }
 {
     let code = field_code(field);
-    let named = operation_named(table, code);
-    match check_invoke(parent, count, ids, table, x, named, id, field, value) {
+    let place = operation_place(table, code);
+    match check_invoke(
+        opened,
+        count,
+        ids,
+        table,
+        x,
+        place,
+        id,
+        linked,
+        field,
+        value,
+    ) {
         Verdict::Fails(number) => rejected(id.0, 0x81, number),
         Verdict::Passes => indicated(
             Indication::Invoke {
@@ -140,16 +150,17 @@ fn arrive_invoke(
                 code,
                 argument: value,
             },
-            added(named.class(), id, code),
+            added(operation_in(table, place).class(), id, code),
         ),
     }
 }
 
-fn arrive_result(found: Found, table: &[u8], x: &[u8], id: OwnId, body: Body) -> Arrival
-    requires { ⌜ valid (now table) ≡ true ⌝ }
-    ensures { λ r. ⌜ ((s : State) → found ≡ lookup (id .0) (ownRecords s) → Arrives (now (table .entry)) s (now (x .entry)) (result (id .0) (readBody (now (x .entry)) body)) r) ⌝ }
+fn arrive_result(opened: Opening, table: &[u8], x: &[u8], id: OwnId, body: Body) -> Arrival
+    requires { ⌜ (valid (now table) ≡ true) × StandsAt (now table) (opened .found) (opened .entry) ⌝ }
+    ensures { λ r. ⌜ ((s : State) → opened .found ≡ lookup (id .0) (ownRecords s) → Arrives (now (table .entry)) s (now (x .entry)) (result (id .0) (readBody (now (x .entry)) body)) r) ⌝ }
 {
-    match check_result(found, table, x, id, body) {
+    let found = opened.found;
+    match check_result(opened, table, x, id, body) {
         Verdict::Fails(number) => rejected(id.0, 0x82, number),
         Verdict::Passes => indicated(
             Indication::Result {
@@ -163,17 +174,18 @@ fn arrive_result(found: Found, table: &[u8], x: &[u8], id: OwnId, body: Body) ->
 }
 
 fn arrive_error(
-    found: Found,
+    opened: Opening,
     table: &[u8],
     x: &[u8],
     id: OwnId,
     field: CodeField,
     value: Value,
 ) -> Arrival
-    requires { ⌜ valid (now table) ≡ true ⌝ }
-    ensures { λ r. ⌜ ((s : State) → found ≡ lookup (id .0) (ownRecords s) → Arrives (now (table .entry)) s (now (x .entry)) (error (id .0) field (readValue (now (x .entry)) value)) r) ⌝ }
+    requires { ⌜ (valid (now table) ≡ true) × StandsAt (now table) (opened .found) (opened .entry) ⌝ }
+    ensures { λ r. ⌜ ((s : State) → opened .found ≡ lookup (id .0) (ownRecords s) → Arrives (now (table .entry)) s (now (x .entry)) (error (id .0) field (readValue (now (x .entry)) value)) r) ⌝ }
 {
-    match check_error(found, table, x, id, field, value) {
+    let found = opened.found;
+    match check_error(opened, table, x, id, field, value) {
         Verdict::Fails(number) => rejected(id.0, 0x83, number),
         Verdict::Passes => indicated(
             Indication::Error {
@@ -187,19 +199,18 @@ fn arrive_error(
     }
 }
 
-// A received APDU that was parsed, behind 19, 1, 3 and 2. Of the Rejects only one of an Invoke retires a record.
-pub(crate) fn arrive<'a>(
-    own_count: usize,
-    own_ids: &'a [u32; State::RECORDS],
-    own_codes: &'a [u32; State::RECORDS],
-    peer_count: usize,
-    peer_ids: &'a [u32; State::RECORDS],
+// A received APDU that was parsed, behind 19, 1, 3 and 2, with the own record that it leads to and where its operation stands. Of the Rejects only
+// one of an Invoke retires a record.
+pub(crate) fn arrive(
+    opened: Opening,
+    count: usize,
+    ids: &[u32; State::RECORDS],
     table: &[u8],
     x: &[u8],
     parsed: Parsed,
 ) -> Arrival
-    requires { ⌜ (valid (now table) ≡ true) × (readParsed (now x) parsed ≡ parse (now x)) ⌝ }
-    ensures { λ r. ⌜ ((codes : List ℕ) → Arrives (now (table .entry)) (both (lent «own_count» (now («own_ids» .entry)) (now («own_codes» .entry))) (lent «peer_count» (now («peer_ids» .entry)) codes)) (now (x .entry)) (parse (now (x .entry))) r) ⌝ }
+    requires { ⌜ (valid (now table) ≡ true) × (StandsAt (now table) (opened .found) (opened .entry) × (readParsed (now x) parsed ≡ parse (now x))) ⌝ }
+    ensures { λ r. ⌜ ((own : Records) (codes : List ℕ) → opened .found ≡ leadsTo (parse (now (x .entry))) (view own) → Arrives (now (table .entry)) (both own (lent count (now (ids .entry)) codes)) (now (x .entry)) (parse (now (x .entry))) r) ⌝ }
 {
     match parsed {
         Parsed::BadlyStructured => arrive_wrong(x, 2, Number::Absent),
@@ -210,28 +221,9 @@ pub(crate) fn arrive<'a>(
             linked,
             code,
             value,
-        } => {
-            let parent = own_parent(own_count, own_ids, own_codes, linked);
-            arrive_invoke(
-                parent,
-                peer_count,
-                peer_ids,
-                table,
-                x,
-                id,
-                linked,
-                code,
-                value,
-            )
-        }
-        Parsed::Result { id, body } => {
-            let found = own_found(own_count, own_ids, own_codes, id);
-            arrive_result(found, table, x, id, body)
-        }
-        Parsed::Error { id, code, value } => {
-            let found = own_found(own_count, own_ids, own_codes, id);
-            arrive_error(found, table, x, id, code, value)
-        }
+        } => arrive_invoke(opened, count, ids, table, x, id, linked, code, value),
+        Parsed::Result { id, body } => arrive_result(opened, table, x, id, body),
+        Parsed::Error { id, code, value } => { arrive_error(opened, table, x, id, code, value) }
         Parsed::InvokeReject { id, problem } => indicated(
             Indication::InvokeRejected { id, problem },
             Change::Retires(id),

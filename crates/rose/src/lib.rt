@@ -4,9 +4,11 @@ mod arrival;
 mod change;
 mod forgetting;
 mod problem;
+mod reading;
 mod request;
 mod usable;
 mod verdict;
+mod walking;
 
 use answer::accepted;
 use answer::refused;
@@ -18,28 +20,32 @@ use apdu::encode::write_error;
 use apdu::encode::write_invoke;
 use apdu::encode::write_reject;
 use apdu::encode::write_result;
-use apdu::parse::parse;
 use arrival::arrive;
 use arrival::check_receive;
 use change::changed;
 use change::with_own;
 use forgetting::check_forget;
 use forgetting::forgotten;
+use forgetting::record_sought;
+use optable::places::operation_in;
+use optable::places::operation_place;
 use protocol::Invocation;
 use protocol::Received;
 use protocol::Requested;
+use reading::leads_to;
+use reading::read;
 use records::Code;
 use records::OwnId;
 use records::PeerId;
 use records::State;
-use records::lent::peer_found;
+use records::lent::live;
 use request::check_error;
 use request::check_invoke;
 use request::check_reject;
 use request::check_result;
+use usable::Sought;
 use usable::code_found;
-use usable::opening;
-use usable::operation_named;
+use usable::opening_of;
 use usable::peer_parent;
 use verdict::Verdict;
 ghost use mathlib.Core.List.{[]};
@@ -53,7 +59,8 @@ ghost use Rattle.protocol.specs.Reading.{forgetting, ReceivePromise, RequestPro
 pub fn receive(state: State, table: &[u8], apdu: &[u8], out: &mut [u8]) -> Received
     ensures { λ r. ⌜ ReceivePromise (perform (now (table .entry)) state (receive (now (apdu .entry)) (length (now (out .entry))))) state (now (apdu .entry)) (now (out .entry)) (now (out .exit)) r ⌝ }
 {
-    let opened = opening(
+    let parsed = read(apdu);
+    let opened = opening_of(
         state.own.count,
         &state.own.ids,
         &state.own.codes,
@@ -61,19 +68,19 @@ pub fn receive(state: State, table: &[u8], apdu: &[u8], out: &mut [u8]) -> Recei
         &state.peer.ids,
         &state.peer.codes,
         table,
+        0,
+        leads_to(parsed),
     );
     match check_receive(opened, apdu.len(), out.len()) {
         Verdict::Fails(why) => unheard(state, why),
         Verdict::Passes => {
             let arrival = arrive(
-                state.own.count,
-                &state.own.ids,
-                &state.own.codes,
+                opened,
                 state.peer.count,
                 &state.peer.ids,
                 table,
                 apdu,
-                parse(apdu),
+                parsed,
             );
             let reception = arrival.reception;
             let change = arrival.change;
@@ -99,7 +106,7 @@ pub fn invoke(
 ) -> Requested
     ensures { λ r. ⌜ RequestPromise (perform (now (table .entry)) state (invoke (id .0) code (readPeerLink linked) (now (value .entry)) (length (now (out .entry))))) state (now (out .entry)) (now (out .exit)) r ⌝ }
 {
-    let opened = opening(
+    let opened = opening_of(
         state.own.count,
         &state.own.ids,
         &state.own.codes,
@@ -107,17 +114,16 @@ pub fn invoke(
         &state.peer.ids,
         &state.peer.codes,
         table,
+        live(state.own.count, &state.own.ids),
+        peer_parent(linked),
     );
-    let named = operation_named(table, code);
-    let parent = peer_parent(state.peer.count, &state.peer.ids, &state.peer.codes, linked);
+    let place = operation_place(table, code);
     match check_invoke(
         opened,
         state.own.count,
         &state.own.ids,
-        &state.own.codes,
-        parent,
         table,
-        named,
+        place,
         id,
         code,
         linked,
@@ -127,7 +133,8 @@ pub fn invoke(
         Verdict::Fails(why) => refused(state, why),
         Verdict::Passes => {
             let written = write_invoke(out, id, linked, code, value);
-            accepted(with_own(state, named.class(), id, code), written)
+            let next = with_own(state, operation_in(table, place).class(), id, code);
+            accepted(next, written)
         }
     }
 }
@@ -136,7 +143,7 @@ pub fn invoke(
 pub fn result(state: State, table: &[u8], id: PeerId, value: &[u8], out: &mut [u8]) -> Requested
     ensures { λ r. ⌜ RequestPromise (perform (now (table .entry)) state (result (id .0) (now (value .entry)) (length (now (out .entry))))) state (now (out .entry)) (now (out .exit)) r ⌝ }
 {
-    let opened = opening(
+    let opened = opening_of(
         state.own.count,
         &state.own.ids,
         &state.own.codes,
@@ -144,11 +151,13 @@ pub fn result(state: State, table: &[u8], id: PeerId, value: &[u8], out: &mut [u
         &state.peer.ids,
         &state.peer.codes,
         table,
+        0,
+        Sought::Peer(id),
     );
-    let found = peer_found(state.peer.count, &state.peer.ids, &state.peer.codes, id);
-    match check_result(opened, found, table, id, value, out.len()) {
+    match check_result(opened, table, id, value, out.len()) {
         Verdict::Fails(why) => refused(state, why),
         Verdict::Passes => {
+            let found = opened.found;
             let written = write_result(out, id, code_found(found), value);
             accepted(state.retire_peer(id), written)
         }
@@ -166,7 +175,7 @@ pub fn error(
 ) -> Requested
     ensures { λ r. ⌜ RequestPromise (perform (now (table .entry)) state (error (id .0) code (now (value .entry)) (length (now (out .entry))))) state (now (out .entry)) (now (out .exit)) r ⌝ }
 {
-    let opened = opening(
+    let opened = opening_of(
         state.own.count,
         &state.own.ids,
         &state.own.codes,
@@ -174,9 +183,10 @@ pub fn error(
         &state.peer.ids,
         &state.peer.codes,
         table,
+        0,
+        Sought::Peer(id),
     );
-    let found = peer_found(state.peer.count, &state.peer.ids, &state.peer.codes, id);
-    match check_error(opened, found, table, id, code, value, out.len()) {
+    match check_error(opened, table, id, code, value, out.len()) {
         Verdict::Fails(why) => refused(state, why),
         Verdict::Passes => {
             let written = write_error(out, id, code, value);
@@ -189,7 +199,7 @@ pub fn error(
 pub fn reject(state: State, table: &[u8], id: PeerId, problem: u8, out: &mut [u8]) -> Requested
     ensures { λ r. ⌜ RequestPromise (perform (now (table .entry)) state (reject (id .0) problem (length (now (out .entry))))) state (now (out .entry)) (now (out .exit)) r ⌝ }
 {
-    let opened = opening(
+    let opened = opening_of(
         state.own.count,
         &state.own.ids,
         &state.own.codes,
@@ -197,9 +207,10 @@ pub fn reject(state: State, table: &[u8], id: PeerId, problem: u8, out: &mut [u8
         &state.peer.ids,
         &state.peer.codes,
         table,
+        0,
+        Sought::Peer(id),
     );
-    let found = peer_found(state.peer.count, &state.peer.ids, &state.peer.codes, id);
-    match check_reject(opened, found, table, id, problem, out.len()) {
+    match check_reject(opened, id, problem, out.len()) {
         Verdict::Fails(why) => refused(state, why),
         Verdict::Passes => {
             let written = write_reject(out, Number::Of(id.0), 0x81, problem);
@@ -212,7 +223,7 @@ pub fn reject(state: State, table: &[u8], id: PeerId, problem: u8, out: &mut [u8
 pub fn forget(state: State, table: &[u8], invocation: Invocation) -> Requested
     ensures { λ r. ⌜ RequestPromise (perform (now (table .entry)) state (forgetting invocation)) state [] [] r ⌝ }
 {
-    let opened = opening(
+    let opened = opening_of(
         state.own.count,
         &state.own.ids,
         &state.own.codes,
@@ -220,17 +231,10 @@ pub fn forget(state: State, table: &[u8], invocation: Invocation) -> Requested
         &state.peer.ids,
         &state.peer.codes,
         table,
+        0,
+        record_sought(invocation),
     );
-    match check_forget(
-        opened,
-        state.own.count,
-        &state.own.ids,
-        state.peer.count,
-        &state.peer.ids,
-        &state.peer.codes,
-        table,
-        invocation,
-    ) {
+    match check_forget(opened, table, invocation) {
         Verdict::Fails(why) => refused(state, why),
         Verdict::Passes => accepted(forgotten(state, invocation), 0),
     }

@@ -1,26 +1,29 @@
 // The problems of a received Invoke, Result and Error, in document 01's order of check.
-use crate::usable::Parent;
+use crate::usable::Opening;
 use crate::usable::code_found;
-use crate::usable::error_named;
 use crate::usable::is_childless;
 use crate::usable::is_class;
 use crate::usable::is_found;
 use crate::usable::is_missing;
 use crate::usable::is_no_child;
+use crate::usable::is_own_linked;
 use crate::usable::lacks_room;
-use crate::usable::operation_named;
 use crate::verdict::Verdict;
 use apdu::Body;
 use apdu::CodeField;
+use apdu::OwnLink;
 use apdu::Value;
 use apdu::parse::body_value;
 use apdu::parse::octets_of;
-use optable::Operation;
+use codes::Place;
 use optable::Rule;
-use optable::is_paired;
+use optable::places::error_in;
+use optable::places::error_place;
+use optable::places::is_paired_at;
+use optable::places::operation_in;
+use optable::read::operation_at;
 use optable::value_right;
 use records::Code;
-use records::Found;
 use records::OwnId;
 use records::PeerId;
 use records::State;
@@ -29,19 +32,19 @@ ghost use mathlib.Core.Path.{_≡_};
 ghost use mathlib.Core.Bool.{true};
 ghost use mathlib.Core.List.{List};
 ghost use Prim.Native.Nat.{ℕ};
-ghost use Rattle.apdu.specs.declared.Number.the-variants.{Of};
 ghost use Rattle.records.specs.declared.Records.{Records};
 ghost use Rattle.records.specs.Records.{lent, view, lookup};
+ghost use Rattle.optable.specs.declared.Part.the-variants.{Operations};
+ghost use Rattle.optable.specs.Validity.{valid};
+ghost use Rattle.optable.specs.Lookup.{PlaceOf};
+ghost use Rattle.optable.specs.Value.{valueRight};
+ghost use Rattle.apdu.specs.declared.Number.the-variants.{Of};
+ghost use Rattle.apdu.specs.Field.{octetsOf};
+ghost use Rattle.apdu.specs.Reading.{readOwnLink, readValue, readBody};
 ghost use Rattle.protocol.specs.Call.{rejecting};
 ghost use Rattle.protocol.specs.Check.{ownRecords};
-ghost use Rattle.optable.specs.Validity.{valid};
-ghost use Rattle.optable.specs.Lookup.{operationOf};
-ghost use Rattle.optable.specs.Value.{valueRight};
-ghost use Rattle.apdu.specs.Field.{octetsOf};
-ghost use Rattle.apdu.specs.declared.Number.{Number};
-ghost use Rattle.apdu.specs.Reading.{readValue, readBody};
 ghost use Rattle.protocol.specs.Receive.{fieldCode, otherCode, invokeChecks, resultChecks, errorChecks};
-ghost use Rattle.rose.specs.Steps.{both, first, readVerdict, parentIn, isLocal};
+ghost use Rattle.rose.specs.Steps.{both, first, readVerdict, foundBy, isLocal, StandsAt};
 
 pub(crate) fn field_code(field: CodeField) -> Code
     ensures { λ r. ⌜ r ≡ fieldCode field ⌝ }
@@ -76,29 +79,32 @@ fn is_right(rule: Rule, x: &[u8], value: Value) -> bool
     }
 }
 
-// The checks of an Invoke, given its parent and the operation of its code, which its indication needs too.
+// The checks of an Invoke, given its parent's record and the place of its code, which its indication needs too.
 pub(crate) fn check_invoke(
-    parent: Parent,
+    opened: Opening,
     count: usize,
     ids: &[u32; State::RECORDS],
     table: &[u8],
     x: &[u8],
-    named: Operation,
+    place: Place,
     id: PeerId,
+    linked: OwnLink,
     field: CodeField,
     value: Value,
 ) -> Verdict
-    requires { ⌜ (valid (now table) ≡ true) × (named ≡ operationOf (now table) (fieldCode field)) ⌝ }
-    ensures { λ r. ⌜ ((own : Records) (codes : List ℕ) (linked : Number) → parent ≡ parentIn linked (view own) → readVerdict (rejecting (Of (id .0)) 0x81) r ≡ first (invokeChecks (now (table .entry)) (both own (lent count (now (ids .entry)) codes)) (id .0) linked field (readValue (now (x .entry)) value))) ⌝ }
+    requires { ⌜ (valid (now table) ≡ true) × (StandsAt (now table) (opened .found) (opened .entry) × PlaceOf (now table) Operations (fieldCode field) place) ⌝ }
+    ensures { λ r. ⌜ ((own : Records) (codes : List ℕ) → opened .found ≡ foundBy (readOwnLink linked) (view own) → readVerdict (rejecting (Of (id .0)) 0x81) r ≡ first (invokeChecks (now (table .entry)) (both own (lent count (now (ids .entry)) codes)) (id .0) (readOwnLink linked) field (readValue (now (x .entry)) value))) ⌝ }
 {
-    let code = field_code(field);
+    let named = operation_in(table, place);
+    let is_linked = is_own_linked(linked);
+    let found = opened.found;
     Verdict::Passes
         .then(has_peer(count, ids, id), 0)
-        .then(is_missing(parent), 5)
-        .then(is_childless(table, parent), 6)
+        .then(is_missing(is_linked, found), 5)
+        .then(is_childless(table, is_linked, opened.entry), 6)
         .then(!(is_local(field) & named.is_listed()), 1)
         .then(!is_right(named.argument(), x, value), 2)
-        .then(is_no_child(table, parent, code), 7)
+        .then(is_no_child(table, is_linked, opened.entry, place), 7)
         .then(lacks_room(named.class(), count, ids), 3)
 }
 
@@ -121,39 +127,45 @@ fn is_other(body: Body, code: Code) -> bool
 }
 
 // The checks of a result, given the own record of its id: the state itself is not passed on.
-pub(crate) fn check_result(found: Found, table: &[u8], x: &[u8], id: OwnId, body: Body) -> Verdict
-    requires { ⌜ valid (now table) ≡ true ⌝ }
-    ensures { λ r. ⌜ ((s : State) → found ≡ lookup (id .0) (ownRecords s) → readVerdict (rejecting (Of (id .0)) 0x82) r ≡ first (resultChecks (now (table .entry)) s (id .0) (readBody (now (x .entry)) body))) ⌝ }
+pub(crate) fn check_result(
+    opened: Opening,
+    table: &[u8],
+    x: &[u8],
+    id: OwnId,
+    body: Body,
+) -> Verdict
+    requires { ⌜ (valid (now table) ≡ true) × StandsAt (now table) (opened .found) (opened .entry) ⌝ }
+    ensures { λ r. ⌜ ((s : State) → opened .found ≡ lookup (id .0) (ownRecords s) → readVerdict (rejecting (Of (id .0)) 0x82) r ≡ first (resultChecks (now (table .entry)) s (id .0) (readBody (now (x .entry)) body))) ⌝ }
 {
-    let code = code_found(found);
-    let named = operation_named(table, code);
+    let found = opened.found;
+    let named = operation_at(table, opened.entry);
     Verdict::Passes
         .then(!is_found(found), 0)
         .then(is_class(3, 5, named.class()), 1)
-        .then(is_other(body, code), 0)
+        .then(is_other(body, code_found(found)), 0)
         .then(!is_right(named.result(), x, body_value(body)), 2)
 }
 
 // The checks of an error, likewise.
 pub(crate) fn check_error(
-    found: Found,
+    opened: Opening,
     table: &[u8],
     x: &[u8],
     id: OwnId,
     field: CodeField,
     value: Value,
 ) -> Verdict
-    requires { ⌜ valid (now table) ≡ true ⌝ }
-    ensures { λ r. ⌜ ((s : State) → found ≡ lookup (id .0) (ownRecords s) → readVerdict (rejecting (Of (id .0)) 0x83) r ≡ first (errorChecks (now (table .entry)) s (id .0) field (readValue (now (x .entry)) value))) ⌝ }
+    requires { ⌜ (valid (now table) ≡ true) × StandsAt (now table) (opened .found) (opened .entry) ⌝ }
+    ensures { λ r. ⌜ ((s : State) → opened .found ≡ lookup (id .0) (ownRecords s) → readVerdict (rejecting (Of (id .0)) 0x83) r ≡ first (errorChecks (now (table .entry)) s (id .0) field (readValue (now (x .entry)) value))) ⌝ }
 {
-    let code = code_found(found);
-    let used = operation_named(table, code);
-    let error = field_code(field);
-    let named = error_named(table, error);
+    let found = opened.found;
+    let used = operation_at(table, opened.entry);
+    let place = error_place(table, field_code(field));
+    let named = error_in(table, place);
     Verdict::Passes
         .then(!is_found(found), 0)
         .then(is_class(4, 5, used.class()), 1)
         .then(!(is_local(field) & named.is_known()), 2)
-        .then(!is_paired(table, code, error), 3)
+        .then(!is_paired_at(table, Place::At(opened.entry), place), 3)
         .then(!is_right(named.parameter(), x, value), 4)
 }

@@ -1,14 +1,12 @@
 // The checks of the requests, in document 01's order: each list goes on from the verdict on 19 and 1.
-use crate::usable::Parent;
+use crate::usable::Opening;
 use crate::usable::code_found;
-use crate::usable::error_named;
-use crate::usable::is_busy;
 use crate::usable::is_class;
 use crate::usable::is_found;
 use crate::usable::is_missing;
 use crate::usable::is_no_child;
+use crate::usable::is_peer_linked;
 use crate::usable::lacks_room;
-use crate::usable::operation_named;
 use crate::verdict::Verdict;
 use apdu::Number;
 use apdu::PeerLink;
@@ -17,30 +15,35 @@ use apdu::encode::invoke_size;
 use apdu::encode::reject_size;
 use apdu::encode::result_size;
 use ber::element::well_formed;
-use optable::Operation;
-use optable::is_paired;
+use codes::Place;
+use optable::places::error_in;
+use optable::places::error_place;
+use optable::places::is_paired_at;
+use optable::places::operation_in;
+use optable::read::operation_at;
 use optable::value_right;
 use records::Code;
-use records::Found;
 use records::OwnId;
 use records::PeerId;
 use records::State;
 use records::lent::has_own;
 ghost use mathlib.Core.Path.{_≡_};
-ghost use mathlib.Core.Bool.{true, not, _&&_};
+ghost use mathlib.Core.Bool.{not, _&&_};
+ghost use mathlib.Core.List.{List};
 ghost use lib.Dec.{leb};
+ghost use lib.ListN.{length};
 ghost use Prim.Native.Nat.{ℕ, _-_};
-ghost use Rattle.records.specs.Limits.{octets, levels};
-ghost use Rattle.optable.specs.Validity.{valid};
-ghost use Rattle.optable.specs.Lookup.{operationOf};
 ghost use Rattle.base.specs.Lists.{nonEmpty};
-ghost use Rattle.protocol.specs.Call.{invoke, result, error, reject};
 ghost use Rattle.records.specs.declared.Records.{Records};
+ghost use Rattle.records.specs.Limits.{octets, levels};
 ghost use Rattle.records.specs.Records.{lent, view, lookup};
+ghost use Rattle.optable.specs.declared.Part.the-variants.{Operations};
+ghost use Rattle.optable.specs.Lookup.{PlaceOf};
+ghost use Rattle.apdu.specs.Reading.{readPeerLink};
+ghost use Rattle.protocol.specs.Call.{invoke, result, error, reject};
 ghost use Rattle.protocol.specs.Check.{valueWell, peerRecords};
 ghost use Rattle.protocol.specs.Perform.{isUserProblem};
-ghost use Rattle.apdu.specs.Reading.{readPeerLink};
-ghost use Rattle.rose.specs.Steps.{both, Opened, Judged, parentIn};
+ghost use Rattle.rose.specs.Steps.{both, foundBy, Opens, Judged};
 
 // A value, empty for none, is one well-formed element of at most so many levels.
 fn is_well(value: &[u8], levels: usize) -> bool
@@ -69,31 +72,33 @@ fn is_large(fits: bool, size: usize) -> bool
     !((size <= State::OCTETS) & fits)
 }
 
-// The checks of an invoke behind 19 and 1, given its parent and the operation of its code, which the call itself needs too.
-pub(crate) fn check_invoke<'a>(
-    opened: Verdict,
+// The checks of an invoke behind 19 and 1, given its parent's record and the place of its code, which the call itself needs too.
+pub(crate) fn check_invoke(
+    opened: Opening,
     count: usize,
-    ids: &'a [u32; State::RECORDS],
-    codes: &'a [u32; State::RECORDS],
-    parent: Parent,
+    ids: &[u32; State::RECORDS],
     table: &[u8],
-    named: Operation,
+    place: Place,
     id: OwnId,
     code: Code,
     linked: PeerLink,
     value: &[u8],
     room: usize,
 ) -> Verdict
-    ensures { λ r. ⌜ ((peer : Records) → parent ≡ parentIn (readPeerLink linked) (view peer) → Opened (now (table .entry)) (both (lent count (now (ids .entry)) (now (codes .entry))) peer) opened → (valid (now (table .entry)) ≡ true → named ≡ operationOf (now (table .entry)) code) → Judged (now (table .entry)) (both (lent count (now (ids .entry)) (now (codes .entry))) peer) (invoke (id .0) code (readPeerLink linked) (now (value .entry)) room) r) ⌝ }
+    ensures { λ r. ⌜ ((codes : List ℕ) (peer : Records) → Opens (now (table .entry)) (both (lent count (now (ids .entry)) codes) peer) (length (view (lent count (now (ids .entry)) codes))) (foundBy (readPeerLink linked) (view peer)) opened → PlaceOf (now (table .entry)) Operations code place → Judged (now (table .entry)) (both (lent count (now (ids .entry)) codes) peer) (invoke (id .0) code (readPeerLink linked) (now (value .entry)) room) r) ⌝ }
 {
+    let named = operation_in(table, place);
     let fits = is_well(value, State::LEVELS - 1);
     let size = invoke_size(id, linked, code, value);
-    opened
+    let is_linked = is_peer_linked(linked);
+    let verdict = opened.verdict;
+    let found = opened.found;
+    verdict
         .then(!named.is_listed(), 4)
         .then(has_own(count, ids, id), 5)
-        .then(is_busy(table, count, ids, codes), 6)
-        .then(is_missing(parent), 7)
-        .then(is_no_child(table, parent, code), 8)
+        .then(opened.busy, 6)
+        .then(is_missing(is_linked, found), 7)
+        .then(is_no_child(table, is_linked, opened.entry, place), 8)
         .then(!is_well_formed(value, fits), 9)
         .then(!value_right(named.argument(), value), 10)
         .then(lacks_room(named.class(), count, ids), 14)
@@ -103,20 +108,20 @@ pub(crate) fn check_invoke<'a>(
 
 // The checks of a result behind 19 and 1, given the peer record of its id: the state itself is not passed on.
 pub(crate) fn check_result(
-    opened: Verdict,
-    found: Found,
+    opened: Opening,
     table: &[u8],
     id: PeerId,
     value: &[u8],
     room: usize,
 ) -> Verdict
-    ensures { λ r. ⌜ ((s : State) → Opened (now (table .entry)) s opened → found ≡ lookup (id .0) (peerRecords s) → Judged (now (table .entry)) s (result (id .0) (now (value .entry)) room) r) ⌝ }
+    ensures { λ r. ⌜ ((s : State) (asked : ℕ) → Opens (now (table .entry)) s asked (lookup (id .0) (peerRecords s)) opened → Judged (now (table .entry)) s (result (id .0) (now (value .entry)) room) r) ⌝ }
 {
-    let code = code_found(found);
-    let named = operation_named(table, code);
+    let found = opened.found;
+    let named = operation_at(table, opened.entry);
     let fits = is_well(value, State::LEVELS - 2);
-    let size = result_size(id, code, value);
-    opened
+    let size = result_size(id, code_found(found), value);
+    let verdict = opened.verdict;
+    verdict
         .then(!is_found(found), 11)
         .then(is_class(3, 5, named.class()), 12)
         .then(!is_well_formed(value, fits), 9)
@@ -127,25 +132,29 @@ pub(crate) fn check_result(
 
 // The checks of an error, likewise.
 pub(crate) fn check_error(
-    opened: Verdict,
-    found: Found,
+    opened: Opening,
     table: &[u8],
     id: PeerId,
     code: Code,
     value: &[u8],
     room: usize,
 ) -> Verdict
-    ensures { λ r. ⌜ ((s : State) → Opened (now (table .entry)) s opened → found ≡ lookup (id .0) (peerRecords s) → Judged (now (table .entry)) s (error (id .0) code (now (value .entry)) room) r) ⌝ }
+    ensures { λ r. ⌜ ((s : State) (asked : ℕ) → Opens (now (table .entry)) s asked (lookup (id .0) (peerRecords s)) opened → Judged (now (table .entry)) s (error (id .0) code (now (value .entry)) room) r) ⌝ }
 {
-    let operated = code_found(found);
-    let used = operation_named(table, operated);
-    let named = error_named(table, code);
+    let found = opened.found;
+    let used = operation_at(table, opened.entry);
+    let place = error_place(table, code);
+    let named = error_in(table, place);
     let fits = is_well(value, State::LEVELS - 1);
     let size = error_size(id, code, value);
-    opened
+    let verdict = opened.verdict;
+    verdict
         .then(!is_found(found), 11)
         .then(is_class(4, 5, used.class()), 12)
-        .then(!(named.is_known() & is_paired(table, operated, code)), 13)
+        .then(
+            !(named.is_known() & is_paired_at(table, Place::At(opened.entry), place)),
+            13,
+        )
         .then(!is_well_formed(value, fits), 9)
         .then(!value_right(named.parameter(), value), 10)
         .then(is_large(fits, size), 15)
@@ -158,18 +167,13 @@ fn is_user_problem(problem: u8) -> bool
     (problem == 2) | ((problem == 3) | (problem == 4))
 }
 
-pub(crate) fn check_reject(
-    opened: Verdict,
-    found: Found,
-    table: &[u8],
-    id: PeerId,
-    problem: u8,
-    room: usize,
-) -> Verdict
-    ensures { λ r. ⌜ ((s : State) → Opened (now (table .entry)) s opened → found ≡ lookup (id .0) (peerRecords s) → Judged (now (table .entry)) s (reject (id .0) problem room) r) ⌝ }
+pub(crate) fn check_reject(opened: Opening, id: PeerId, problem: u8, room: usize) -> Verdict
+    ensures { λ r. ⌜ ((T : List ℕ) (s : State) (asked : ℕ) → Opens T s asked (lookup (id .0) (peerRecords s)) opened → Judged T s (reject (id .0) problem room) r) ⌝ }
 {
     let size = reject_size(Number::Of(id.0));
-    opened
+    let verdict = opened.verdict;
+    let found = opened.found;
+    verdict
         .then(!is_user_problem(problem), 16)
         .then(!is_found(found), 11)
         .then(room < size, 2)

@@ -1,84 +1,71 @@
-// What every call reads of state and table: refusals 19 and 1, classes, and records by id.
+// What every call reads of state and table: refusals 19 and 1, the record of an id, classes, and linked ids.
 use crate::verdict::Verdict;
+use crate::walking::walk_records;
 use apdu::OwnLink;
 use apdu::PeerLink;
-use optable::Error;
-use optable::Operation;
-use optable::error_of;
-use optable::has_child;
-use optable::is_child;
-use optable::operation_of;
+use codes::Place;
+use optable::places::has_child_at;
+use optable::places::is_child_at;
 use optable::valid;
 use records::Code;
 use records::Found;
+use records::OwnId;
+use records::PeerId;
 use records::State;
 use records::lent::live;
 use records::lent::own_found;
 use records::lent::peer_found;
 use records::lent::sound;
 ghost use mathlib.Core.Path.{_≡_};
+ghost use mathlib.Core.Bool.{true, not, _&&_};
 ghost use mathlib.Core.List.{List};
 ghost use Prim.Native.Nat.{ℕ};
-ghost use Rattle.records.specs.Records.{lent, view};
-ghost use Rattle.optable.specs.Validity.{valid};
-ghost use Rattle.optable.specs.Lookup.{operationOf, errorOf};
-ghost use mathlib.Core.Bool.{true, not, _&&_};
 ghost use lib.Dec.{eqb};
+ghost use Rattle.records.specs.Records.{lent, view};
+ghost use Rattle.codes.specs.declared.Place.the-variants.{At};
+ghost use Rattle.optable.specs.declared.Part.the-variants.{Operations};
+ghost use Rattle.optable.specs.Validity.{valid};
+ghost use Rattle.optable.specs.Lookup.{childOf, hasChild, PlaceOf};
 ghost use Rattle.apdu.specs.Reading.{readOwnLink, readPeerLink};
-ghost use Rattle.protocol.specs.Check.{codeFound, isClass, isFull, covered, isBusy};
-ghost use Rattle.rose.specs.Steps.{both, Opened, isFound, parentIn, missing, childless, noChild};
+ghost use Rattle.protocol.specs.Check.{codeFound, ownRecords, peerRecords, isClass, isFull, isLinked};
+ghost use Rattle.rose.specs.Steps.{both, isFound, foundBy, soughtIn, Opens};
 
-// The operation of a code in a valid table.
-pub(crate) fn operation_named(table: &[u8], code: Code) -> Operation
-    ensures { λ r. ⌜ (valid (now (table .entry)) ≡ true → r ≡ operationOf (now (table .entry)) code) ⌝ }
-{
-    operation_of(table, code)
+// The record that a call asks for: of an invocation that this end made, or received, or none.
+pub(crate) enum Sought {
+    Own(OwnId),
+    Peer(PeerId),
+    Nothing,
 }
 
-// Whether a valid table has the code of every live record of a side.
-fn covers<'a>(
-    table: &[u8],
-    count: usize,
-    ids: &'a [u32; State::RECORDS],
-    codes: &'a [u32; State::RECORDS],
-) -> bool
-    ensures { λ r. ⌜ (valid (now (table .entry)) ≡ true → r ≡ covered (now (table .entry)) (view (lent count (now (ids .entry)) (now (codes .entry))))) ⌝ }
+fn record_of<'a>(
+    own_count: usize,
+    own_ids: &'a [u32; State::RECORDS],
+    own_codes: &'a [u32; State::RECORDS],
+    peer_count: usize,
+    peer_ids: &'a [u32; State::RECORDS],
+    peer_codes: &'a [u32; State::RECORDS],
+    sought: Sought,
+) -> Found
+    ensures { λ r. ⌜ r ≡ soughtIn (both (lent «own_count» (now («own_ids» .entry)) (now («own_codes» .entry))) (lent «peer_count» (now («peer_ids» .entry)) (now («peer_codes» .entry)))) sought ⌝ }
 {
-    let n = live(count, ids);
-    let mut i: usize = 0;
-    while i < n {
-        let named = operation_named(table, Code(codes[i]));
-        if !named.is_listed() {
-            return false;
-        }
-        i += 1;
+    match sought {
+        Sought::Own(id) => own_found(own_count, own_ids, own_codes, id),
+        Sought::Peer(id) => peer_found(peer_count, peer_ids, peer_codes, id),
+        Sought::Nothing => Found::Nothing,
     }
-    true
 }
 
-// Whether a class 1 record of a side is live, by a valid table.
-pub(crate) fn is_busy<'a>(
-    table: &[u8],
-    count: usize,
-    ids: &'a [u32; State::RECORDS],
-    codes: &'a [u32; State::RECORDS],
-) -> bool
-    ensures { λ r. ⌜ (valid (now (table .entry)) ≡ true → r ≡ isBusy (now (table .entry)) (view (lent count (now (ids .entry)) (now (codes .entry))))) ⌝ }
-{
-    let n = live(count, ids);
-    let mut i: usize = 0;
-    while i < n {
-        let named = operation_named(table, Code(codes[i]));
-        if named.class() == 1 {
-            return true;
-        }
-        i += 1;
-    }
-    false
+// The verdict on 19 and 1, and the record that was sought; where they pass, also whether one of the records asked for it is of class 1, and
+// where the operation of the record that was found stands.
+pub(crate) struct Opening {
+    pub verdict: Verdict,
+    pub found: Found,
+    pub busy: bool,
+    pub entry: u16,
 }
 
-// 19 and 1, which come first in every call.
-pub(crate) fn opening<'a>(
+// 19 and 1, which come first in every call. The first `asked` of the live records, own before peer, are asked for class 1.
+pub(crate) fn opening_of<'a>(
     own_count: usize,
     own_ids: &'a [u32; State::RECORDS],
     own_codes: &'a [u32; State::RECORDS],
@@ -86,14 +73,40 @@ pub(crate) fn opening<'a>(
     peer_ids: &'a [u32; State::RECORDS],
     peer_codes: &'a [u32; State::RECORDS],
     table: &[u8],
-) -> Verdict
-    ensures { λ r. ⌜ Opened (now (table .entry)) (both (lent «own_count» (now («own_ids» .entry)) (now («own_codes» .entry))) (lent «peer_count» (now («peer_ids» .entry)) (now («peer_codes» .entry)))) r ⌝ }
+    asked: usize,
+    sought: Sought,
+) -> Opening
+    ensures { λ r. ⌜ Opens (now (table .entry)) (both (lent «own_count» (now («own_ids» .entry)) (now («own_codes» .entry))) (lent «peer_count» (now («peer_ids» .entry)) (now («peer_codes» .entry)))) asked (soughtIn (both (lent «own_count» (now («own_ids» .entry)) (now («own_codes» .entry))) (lent «peer_count» (now («peer_ids» .entry)) (now («peer_codes» .entry)))) sought) r ⌝ }
 {
     let is_sound = sound(own_count, own_ids, own_codes) & sound(peer_count, peer_ids, peer_codes);
-    let own = covers(table, own_count, own_ids, own_codes);
-    let peer = covers(table, peer_count, peer_ids, peer_codes);
-    let is_usable = valid(table) & (own & peer);
-    Verdict::Passes.then(!is_sound, 19).then(!is_usable, 1)
+    let found = record_of(
+        own_count,
+        own_ids,
+        own_codes,
+        peer_count,
+        peer_ids,
+        peer_codes,
+        sought,
+    );
+    let walked = walk_records(
+        own_count,
+        own_ids,
+        own_codes,
+        peer_count,
+        peer_ids,
+        peer_codes,
+        table,
+        asked,
+        code_found(found),
+    );
+    let is_usable = valid(table) & walked.covered;
+    let verdict = Verdict::Passes.then(!is_sound, 19).then(!is_usable, 1);
+    Opening {
+        verdict,
+        found,
+        busy: walked.busy,
+        entry: walked.entry,
+    }
 }
 
 // Whether a record was found.
@@ -116,70 +129,69 @@ pub(crate) fn code_found(found: Found) -> Code
     }
 }
 
-// What a linked id leads to: nothing where none is linked, else what the lookup on its side found.
-pub(crate) enum Parent {
-    Unlinked,
-    Linked(Found),
-}
-
 // The parent of a received Invoke is an invocation that this end made.
-pub(crate) fn own_parent<'a>(
-    count: usize,
-    ids: &'a [u32; State::RECORDS],
-    codes: &'a [u32; State::RECORDS],
-    linked: OwnLink,
-) -> Parent
-    ensures { λ r. ⌜ r ≡ parentIn (readOwnLink linked) (view (lent count (now (ids .entry)) (now (codes .entry)))) ⌝ }
+pub(crate) fn own_parent(linked: OwnLink) -> Sought
+    ensures { λ r. ⌜ ((s : State) → soughtIn s r ≡ foundBy (readOwnLink linked) (ownRecords s)) ⌝ }
 {
     match linked {
-        OwnLink::To(id) => Parent::Linked(own_found(count, ids, codes, id)),
-        OwnLink::Absent => Parent::Unlinked,
+        OwnLink::To(id) => Sought::Own(id),
+        OwnLink::Absent => Sought::Nothing,
     }
 }
 
 // The parent of an invoke request is an invocation that this end received.
-pub(crate) fn peer_parent<'a>(
-    count: usize,
-    ids: &'a [u32; State::RECORDS],
-    codes: &'a [u32; State::RECORDS],
-    linked: PeerLink,
-) -> Parent
-    ensures { λ r. ⌜ r ≡ parentIn (readPeerLink linked) (view (lent count (now (ids .entry)) (now (codes .entry)))) ⌝ }
+pub(crate) fn peer_parent(linked: PeerLink) -> Sought
+    ensures { λ r. ⌜ ((s : State) → soughtIn s r ≡ foundBy (readPeerLink linked) (peerRecords s)) ⌝ }
 {
     match linked {
-        PeerLink::To(id) => Parent::Linked(peer_found(count, ids, codes, id)),
-        PeerLink::Absent => Parent::Unlinked,
+        PeerLink::To(id) => Sought::Peer(id),
+        PeerLink::Absent => Sought::Nothing,
+    }
+}
+
+pub(crate) fn is_own_linked(linked: OwnLink) -> bool
+    ensures { λ r. ⌜ r ≡ isLinked (readOwnLink linked) ⌝ }
+{
+    match linked {
+        OwnLink::To(_) => true,
+        OwnLink::Absent => false,
+    }
+}
+
+pub(crate) fn is_peer_linked(linked: PeerLink) -> bool
+    ensures { λ r. ⌜ r ≡ isLinked (readPeerLink linked) ⌝ }
+{
+    match linked {
+        PeerLink::To(_) => true,
+        PeerLink::Absent => false,
     }
 }
 
 // Whether a linked id has no record.
-pub(crate) fn is_missing(parent: Parent) -> bool
-    ensures { λ r. ⌜ r ≡ missing parent ⌝ }
+pub(crate) fn is_missing(linked: bool, found: Found) -> bool
+    ensures { λ r. ⌜ r ≡ (linked && not (isFound found)) ⌝ }
 {
-    match parent {
-        Parent::Linked(found) => !is_found(found),
-        Parent::Unlinked => false,
-    }
+    linked & !is_found(found)
 }
 
-// Whether the operation of a parent has no child pair, by a valid table.
-pub(crate) fn is_childless(table: &[u8], parent: Parent) -> bool
-    ensures { λ r. ⌜ (valid (now (table .entry)) ≡ true → r ≡ childless (now (table .entry)) parent) ⌝ }
+// Whether the operation of a linked id, which stands at `parent`, has no child pair, by a valid table.
+pub(crate) fn is_childless(table: &[u8], linked: bool, parent: u16) -> bool
+    ensures { λ r. ⌜ ((c : Code) → (linked ≡ true → PlaceOf (now (table .entry)) Operations c (At parent)) → valid (now (table .entry)) ≡ true → r ≡ (linked && not (hasChild (now (table .entry)) c))) ⌝ }
 {
-    match parent {
-        Parent::Linked(found) => !has_child(table, code_found(found)),
-        Parent::Unlinked => false,
+    if linked {
+        return !has_child_at(table, Place::At(parent));
     }
+    false
 }
 
-// Whether an operation is no listed child of a parent's, by a valid table.
-pub(crate) fn is_no_child(table: &[u8], parent: Parent, code: Code) -> bool
-    ensures { λ r. ⌜ (valid (now (table .entry)) ≡ true → r ≡ noChild (now (table .entry)) parent code) ⌝ }
+// Whether an operation is no listed child of a linked id's, by a valid table.
+pub(crate) fn is_no_child(table: &[u8], linked: bool, parent: u16, child: Place) -> bool
+    ensures { λ r. ⌜ ((c d : Code) → (linked ≡ true → PlaceOf (now (table .entry)) Operations c (At parent)) → PlaceOf (now (table .entry)) Operations d child → valid (now (table .entry)) ≡ true → r ≡ (linked && not (childOf (now (table .entry)) c d))) ⌝ }
 {
-    match parent {
-        Parent::Linked(found) => !is_child(table, code_found(found), code),
-        Parent::Unlinked => false,
+    if linked {
+        return !is_child_at(table, Place::At(parent), child);
     }
+    false
 }
 
 // Whether a class that makes a record finds its side full.
@@ -196,11 +208,4 @@ pub(crate) fn is_class(a: u8, b: u8, class: u8) -> bool
     ensures { λ r. ⌜ r ≡ isClass a b class ⌝ }
 {
     (class == a) | (class == b)
-}
-
-// The error of a code in a valid table.
-pub(crate) fn error_named(table: &[u8], code: Code) -> Error
-    ensures { λ r. ⌜ (valid (now (table .entry)) ≡ true → r ≡ errorOf (now (table .entry)) code) ⌝ }
-{
-    error_of(table, code)
 }

@@ -12,15 +12,13 @@ use Rattle.rose.proofs.error.Statement.{statement}
 use Rattle.rose.proofs.error.Tie as tie
 
 abbrev start : tie.After-check-error → tie.Start
-start c = c .before .before .before .before .before .before .before .before .before .before .before .before .before .before
+start c = c .before .before .before .before .before .before .before .before .before .before
 
 abbrev call : tie.Start → Call
 call c = error (c .args .id .0) (c .args .code) (c .args .value .now) (length (c .args .out .now))
 
 verdict : (c : tie.After-check-error) → Judged (start c .args .table .now) (start c .args .t1) (call (start c)) (c .check-error .result)
-verdict c =
-    let found = c .before in
-    c .check-error .ensures (start c .args .t1) (found .before .before .before .before .opening .ensures) (found .peer-found .ensures)
+verdict c = c .check-error .ensures (start c .args .t1) 0 (c .before .opening-of .ensures)
 
 returns : tie.Need-returns
 returns c =
@@ -43,5 +41,5 @@ returns-2 c =
 pub error-spec : {M : Type 1} → statement M
 error-spec =
     tie.close
-    (tie.spec (λ c κs. search needs) (λ c κs. search needs) (λ c κs. search needs) (λ c. search needs) (λ c κs. search needs)
-    (λ c. search needs) (λ c κs. search needs) (λ c κs. search needs) (λ c κs. search needs) returns (λ c. search needs) returns-2)
+    (tie.spec (λ c κs. search needs) (λ c κs. search needs) (λ c. search needs) (λ c κs. search needs) (λ c. search needs) (λ c κs. search needs)
+    (λ c κs. search needs) (λ c κs. search needs) returns (λ c. search needs) returns-2)

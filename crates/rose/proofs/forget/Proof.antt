@@ -1,22 +1,22 @@
 -- The refusal of the first check that fails, or the new state.
-use mathlib.Core.Path.{_≡_}
+use mathlib.Core.Path.{_≡_, refl}
 use mathlib.Core.List.{[]}
 use Rattle.protocol.specs.Reading.{forgetting}
 use Rattle.rose.specs.declared.verdict.Verdict.the-variants.{Passes}
 use Rattle.rose.specs.Steps.{Judged}
 use Rattle.rose.proofs.Calls.{request-refused, forget-accepted}
+use Rattle.rose.proofs.UsableAnswers.{opens-as}
 use borrow.Author.Needs.{needs}
 use Rattle.rose.proofs.forget.Statement.{statement}
 use Rattle.rose.proofs.forget.Tie as tie
 
-abbrev opened : tie.After-check-forget → tie.After-opening
-opened c = c .before .before .before .before .before
-
 abbrev start : tie.After-check-forget → tie.Start
-start c = opened c .before .before .before .before .before .before .before
+start c = c .before .before .before .before .before .before .before .before .before
 
 verdict : (c : tie.After-check-forget) → Judged (start c .args .table .now) (start c .args .t1) (forgetting (start c .args .invocation)) (c .check-forget .result)
-verdict c = c .check-forget .ensures (start c .args .t1 .own .codes) (opened c .opening .ensures)
+verdict c =
+    let opened = c .before in let sought = opened .before in let b = start c .args in
+    c .check-forget .ensures (b .t1) 0 (opens-as (b .table .now) (b .t1) 0 0 _ _ _ refl (sought .record-sought .ensures (b .t1)) (opened .opening-of .ensures))
 
 returns : tie.Need-returns
 returns c =
@@ -34,5 +34,5 @@ returns-2 c =
 pub forget-spec : {M : Type 1} → statement M
 forget-spec =
     tie.close
-    (tie.spec (λ c κs. search needs) (λ c κs. search needs) (λ c. search needs) (λ c κs. search needs) (λ c. search needs)
+    (tie.spec (λ c κs. search needs) (λ c κs. search needs) (λ c κs. search needs) (λ c. search needs) (λ c κs. search needs) (λ c. search needs)
     (λ c κs. search needs) (λ c κs. search needs) returns returns-2)

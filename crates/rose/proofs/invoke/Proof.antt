@@ -1,7 +1,9 @@
 -- The refusal of the first check that fails, or the APDU and the new state.
 use mathlib.Core.Path.{_≡_, refl, ap, _∙_}
 use lib.ListN.{length}
+use Rattle.records.proofs.Steps.{live-length}
 use Rattle.optable.specs.Lookup.{classOf}
+use Rattle.optable.proofs.TableLaws.{operation-there}
 use Rattle.apdu.specs.Reading.{readPeerLink}
 use Rattle.protocol.specs.Call.{Call, invoke}
 use Rattle.protocol.specs.Perform.{done}
@@ -10,22 +12,26 @@ use Rattle.rose.proofs.Verdicts.{checks-valid}
 use Rattle.rose.proofs.Calls.{request-refused, request-accepted, all-pass, sent-fits}
 use Rattle.rose.specs.declared.verdict.Verdict.the-variants.{Passes}
 use Rattle.rose.specs.Steps.{Judged}
+use Rattle.rose.proofs.UsableAnswers.{opens-as}
 use borrow.Author.Needs.{needs}
 use Rattle.rose.proofs.invoke.Statement.{statement}
 use Rattle.rose.proofs.invoke.Tie as tie
 
-abbrev named : tie.After-check-invoke → tie.After-operation-named
-named c = c .before .before .before .before .before .before .before .before
+abbrev placed : tie.After-check-invoke → tie.After-operation-place
+placed c = c .before .before .before
 
 abbrev start : tie.After-check-invoke → tie.Start
-start c = named c .before .before .before .before .before .before .before .before .before .before
+start c = placed c .before .before .before .before .before .before .before .before .before .before .before .before .before .before
 
 abbrev call : tie.Start → Call
 call c = invoke (c .args .id .0) (c .args .code) (readPeerLink (c .args .linked)) (c .args .value .now) (length (c .args .out .now))
 
 verdict : (c : tie.After-check-invoke) → Judged (start c .args .table .now) (start c .args .t1) (call (start c)) (c .check-invoke .result)
 verdict c =
-    c .check-invoke .ensures (start c .args .t1 .peer) (c .before .before .before .before .peer-parent .ensures) (named c .before .opening .ensures) (named c .operation-named .ensures)
+    let opened = placed c .before in let b = start c .args in let T = b .table .now in let s = b .t1 in
+    c .check-invoke .ensures (s .own .codes) (s .peer)
+    (opens-as T s _ _ _ _ _ (opened .before .before .live .ensures ∙ live-length (s .own .count) (s .own .ids) (s .own .codes)) (opened .before .peer-parent .ensures s) (opened .opening-of .ensures))
+    (placed c .operation-place .ensures)
 
 returns : tie.Need-returns
 returns c =
@@ -38,18 +44,18 @@ passes a = cc
 returns-2 : tie.Need-returns-2
 unfolding done
 returns-2 c =
-    let next = c .before in let class = next .before in let written = class .before .before .before in let told = written .before .before in
+    let next = c .before in let class = next .before in let named = class .before in let written = named .before .before .before in let told = written .before .before in
     let checked = told .before .before in let b = start checked .args in let T = b .table .now in let s = b .t1 in
     let passed = all-pass T s (call (start checked)) _ (verdict checked) (passes told) in
     let valid = checks-valid T s (call (start checked)) passed in
     request-accepted T s (call (start checked)) _ (verdict checked) (passes told) _ (_)
-    (rw (next .with-own .ensures T (class .class .ensures ∙ ap classOf (named checked .operation-named .ensures valid))) refl) (b .out .now) _ _
+    (rw (next .with-own .ensures T (class .class .ensures ∙ ap classOf (named .operation-in .ensures ∙ operation-there T valid (b .code) _ (placed checked .operation-place .ensures)))) refl) (b .out .now) _ _
     (sent-fits 1 (b .value .now) _ (b .out .now) (invoke-facts T s (b .id .0) (b .value .now) (length (b .out .now)) (b .code) (readPeerLink (b .linked)) passed .sendable))
     (written .write-invoke .ensures) _ (c .accepted .ensures)
 
 pub invoke-spec : {M : Type 1} → statement M
 invoke-spec =
     tie.close
-    (tie.spec (λ c κs. search needs) (λ c κs. search needs) (λ c κs. search needs) (λ c κs. search needs) (λ c. search needs)
+    (tie.spec (λ c κs. search needs) (λ c κs. search needs) (λ c κs. search needs) (λ c κs. search needs) (λ c κs. search needs) (λ c. search needs)
     (λ c κs. search needs) (λ c. search needs) (λ c κs. search needs) (λ c κs. search needs) (λ c κs. search needs) (λ c κs. search needs)
-    returns (λ c. search needs) returns-2)
+    (λ c κs. search needs) returns (λ c. search needs) returns-2)

@@ -11,15 +11,13 @@ use Rattle.rose.proofs.reject.Statement.{statement}
 use Rattle.rose.proofs.reject.Tie as tie
 
 abbrev start : tie.After-check-reject → tie.Start
-start c = c .before .before .before .before .before .before .before .before .before .before .before .before .before
+start c = c .before .before .before .before .before .before .before .before .before
 
 abbrev call : tie.Start → Call
 call c = reject (c .args .id .0) (c .args .problem) (length (c .args .out .now))
 
 verdict : (c : tie.After-check-reject) → Judged (start c .args .table .now) (start c .args .t1) (call (start c)) (c .check-reject .result)
-verdict c =
-    let found = c .before in
-    c .check-reject .ensures (start c .args .t1) (found .before .before .before .before .opening .ensures) (found .peer-found .ensures)
+verdict c = c .check-reject .ensures (start c .args .table .now) (start c .args .t1) 0 (c .before .opening-of .ensures)
 
 returns : tie.Need-returns
 returns c =
@@ -42,5 +40,5 @@ returns-2 c =
 pub reject-spec : {M : Type 1} → statement M
 reject-spec =
     tie.close
-    (tie.spec (λ c κs. search needs) (λ c κs. search needs) (λ c κs. search needs) (λ c. search needs) (λ c κs. search needs)
-    (λ c. search needs) (λ c κs. search needs) (λ c κs. search needs) (λ c κs. search needs) returns (λ c. search needs) returns-2)
+    (tie.spec (λ c κs. search needs) (λ c κs. search needs) (λ c. search needs) (λ c κs. search needs) (λ c. search needs) (λ c κs. search needs)
+    (λ c κs. search needs) (λ c κs. search needs) returns (λ c. search needs) returns-2)

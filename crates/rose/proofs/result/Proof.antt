@@ -15,15 +15,13 @@ use Rattle.rose.proofs.result.Statement.{statement}
 use Rattle.rose.proofs.result.Tie as tie
 
 abbrev start : tie.After-check-result → tie.Start
-start c = c .before .before .before .before .before .before .before .before .before .before .before .before .before .before
+start c = c .before .before .before .before .before .before .before .before .before .before
 
 abbrev call : tie.Start → Call
 call c = result (c .args .id .0) (c .args .value .now) (length (c .args .out .now))
 
 verdict : (c : tie.After-check-result) → Judged (start c .args .table .now) (start c .args .t1) (call (start c)) (c .check-result .result)
-verdict c =
-    let found = c .before in
-    c .check-result .ensures (start c .args .t1) (found .before .before .before .before .opening .ensures) (found .peer-found .ensures)
+verdict c = c .check-result .ensures (start c .args .t1) 0 (c .before .opening-of .ensures)
 
 returns : tie.Need-returns
 returns c =
@@ -39,7 +37,7 @@ returns-2 c =
     let retired = c .before in let written = retired .before .before .before in let code = written .before in let told = code .before .before in
     let checked = told .before .before in let b = start checked .args in let T = b .table .now in let s = b .t1 in
     let passed = all-pass T s (call (start checked)) _ (verdict checked) (passes told) in
-    let same : code .code-found .result ≡ codeIn (peerRecords s) (b .id .0) = code .code-found .ensures ∙ ap codeFound (checked .before .peer-found .ensures) in
+    let same : code .code-found .result ≡ codeIn (peerRecords s) (b .id .0) = code .code-found .ensures ∙ ap codeFound (checked .before .opening-of .ensures .found) in
     request-accepted T s (call (start checked)) _ (verdict checked) (passes told) _ (encodeResult (b .id .0) (code .code-found .result) (nonEmpty (b .value .now)))
     (rw (retired .retire-peer .ensures, same) refl) (b .out .now) _ _
     (sent-fits 2 (b .value .now) _ (b .out .now) (rw same (result-facts T s (b .id .0) (b .value .now) (length (b .out .now)) passed .sendable))) (written .write-result .ensures) _ (c .accepted .ensures)
@@ -47,5 +45,5 @@ returns-2 c =
 pub result-spec : {M : Type 1} → statement M
 result-spec =
     tie.close
-    (tie.spec (λ c κs. search needs) (λ c κs. search needs) (λ c κs. search needs) (λ c. search needs) (λ c κs. search needs)
-    (λ c. search needs) (λ c κs. search needs) (λ c κs. search needs) (λ c κs. search needs) (λ c κs. search needs) returns (λ c. search needs) returns-2)
+    (tie.spec (λ c κs. search needs) (λ c κs. search needs) (λ c. search needs) (λ c κs. search needs) (λ c. search needs) (λ c κs. search needs)
+    (λ c κs. search needs) (λ c κs. search needs) (λ c κs. search needs) returns (λ c. search needs) returns-2)

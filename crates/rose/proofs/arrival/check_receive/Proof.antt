@@ -11,7 +11,7 @@ returns : tie.Need-returns
 unfolding laterChecks
 returns c = λ T s x o e.
     let three = c .before in let start = three .before in
-    judged T s (receive x (start .args .room)) _ _ o
+    judged {Q = Unit {0}} T s (receive x (start .args .room)) _ _ o (λ _. tt)
     (made (three .then .ensures) (λ _. rw e refl)
     (made (c .then2 .ensures) (λ _. refl) last))
 

@@ -1,36 +1,40 @@
 -- 19 and 1, then 11, 12, 13, 9, 10, 15, 2.
-use mathlib.Core.Path.{refl}
+use mathlib.Core.Path.{_≡_, refl, _∙_}
+use mathlib.Core.Bool.{true}
+use Rattle.optable.specs.Validity.{valid}
+use Rattle.optable.specs.Lookup.{errorOf}
+use Rattle.optable.proofs.TableLaws.{error-there}
 use Rattle.protocol.specs.Call.{error}
 use Rattle.protocol.specs.Check.{peerRecords, withinLimits}
 use Rattle.protocol.specs.Perform.{laterChecks}
-use Rattle.rose.proofs.UsableAnswers.{found-member}
-use Rattle.rose.proofs.Verdicts.{judged, made, last}
+use Rattle.rose.proofs.UsableAnswers.{found-member, settled}
+use Rattle.rose.proofs.Verdicts.{judged, made-so, made, last}
 use borrow.Author.Needs.{needs}
 use Rattle.rose.proofs.request.check_error.Statement.{statement}
 use Rattle.rose.proofs.request.check_error.Tie as tie
 
 returns : tie.Need-returns
 unfolding laterChecks withinLimits
-returns c = λ s o e.
+returns c = λ s asked o.
     let fifteen = c .before in let large = fifteen .before in let ten = large .before in let right = ten .before in let rule = right .before in
     let nine = rule .before in let formed = nine .before in let thirteen = formed .before in let paired = thirteen .before in
     let known = paired .before in let twelve = known .before in let is-class = twelve .before in let class = is-class .before in
-    let eleven = class .before in let is-found = eleven .before in let size = is-found .before in let fits = size .before in
-    let named = fits .before in let used = named .before in let code = used .before in let start = code .before .before .before in
-    judged (start .args .table .now) s (error (start .args .id .0) (start .args .code) (start .args .value .now) (start .args .room)) _ _ o
-    (made (eleven .then .ensures) (λ _. rw (is-found .is-found .ensures, e, found-member (start .args .id .0) (peerRecords s)) refl)
-    (made (twelve .then2 .ensures) (λ h. rw (is-class .is-class .ensures, class .class .ensures, used .operation-named .ensures h, code .code-found .ensures, e) refl)
-    (made (thirteen .then3 .ensures) (λ h. rw (known .is-known .ensures, paired .is-paired .ensures .in-valid h, named .error-named .ensures h, code .code-found .ensures, e) refl)
+    let eleven = class .before in let is-found = eleven .before in let size = is-found .before in let fits = size .before in let named = fits .before in
+    let place = named .before in let used = place .before in let b = used .before .before .before .args in let T = b .table .now in
+    let known-error : valid T ≡ true → named .error-in .result ≡ errorOf T (b .code) = λ v. named .error-in .ensures ∙ error-there T v (b .code) _ (place .error-place .ensures) in
+    judged T s (error (b .id .0) (b .code) (b .value .now) (b .room)) _ _ (o .verdict) (o .stands)
+    (made-so (eleven .then .ensures) (λ _. rw (is-found .is-found .ensures, o .found, found-member (b .id .0) (peerRecords s)) refl) (settled T (b .opened .found) (b .opened .entry) (b .id .0) (peerRecords s) (o .found))
+    (made (twelve .then2 .ensures) (λ h. rw (is-class .is-class .ensures, class .class .ensures, used .operation-at .ensures, h .operation, o .found) refl)
+    (made (thirteen .then3 .ensures) (λ h. rw (known .is-known .ensures, paired .is-paired-at .ensures _ (b .code) (h .place) (place .error-place .ensures) .in-valid (h .valid), known-error (h .valid), o .found) refl)
     (made (nine .then4 .ensures) (λ _. rw (formed .is-well-formed .ensures 1 (fits .is-well .ensures)) refl)
-    (made (ten .then5 .ensures) (λ h. rw (right .value-right .ensures, rule .parameter .ensures, named .error-named .ensures h) refl)
+    (made (ten .then5 .ensures) (λ h. rw (right .value-right .ensures, rule .parameter .ensures, known-error (h .valid)) refl)
     (made (fifteen .then6 .ensures) (λ _. rw (large .is-large .ensures, size .error-size .ensures, fits .is-well .ensures) refl)
     (made (c .then7 .ensures) (λ _. rw (size .error-size .ensures) refl) last)))))))
 
 pub check-error-spec : {M : Type 1} → statement M
 check-error-spec =
     tie.close
-    (tie.spec (λ c κs. search needs) (λ c κs. search needs) (λ c κs. search needs) (λ c. search needs) (λ c κs. search needs)
-    (λ c κs. search needs) (λ c κs. search needs) (λ c κs. search needs) (λ c κs. search needs) (λ c κs. search needs)
-    (λ c κs. search needs) (λ c κs. search needs) (λ c κs. search needs) (λ c κs. search needs) (λ c κs. search needs)
-    (λ c κs. search needs) (λ c κs. search needs) (λ c κs. search needs) (λ c κs. search needs) (λ c κs. search needs)
-    (λ c κs. search needs) (λ c κs. search needs) returns)
+    (tie.spec (λ c κs. search needs) (λ c κs. search needs) (λ c κs. search needs) (λ c. search needs) (λ c κs. search needs) (λ c κs. search needs)
+    (λ c κs. search needs) (λ c κs. search needs) (λ c κs. search needs) (λ c κs. search needs) (λ c κs. search needs) (λ c κs. search needs)
+    (λ c κs. search needs) (λ c κs. search needs) (λ c κs. search needs) (λ c κs. search needs) (λ c κs. search needs) (λ c κs. search needs)
+    (λ c κs. search needs) (λ c κs. search needs) (λ c κs. search needs) (λ c κs. search needs) returns)

@@ -1,19 +1,15 @@
 -- Only where an id is linked.
-use mathlib.Core.Path.{_≡_, refl}
-use Rattle.rose.specs.declared.usable.Parent.the-variants.{Unlinked, Linked}
+use mathlib.Core.Path.{refl, ap}
+use mathlib.Core.Bool.{not}
 use borrow.Author.Needs.{needs}
 use Rattle.rose.proofs.usable.is_no_child.Statement.{statement}
 use Rattle.rose.proofs.usable.is_no_child.Tie as tie
 
 returns : tie.Need-returns
-returns c = λ h.
-    let code = c .before in let parent = code .before .before in let start = parent .before .before .before in
-    let p : start .args .parent ≡ Linked (parent .parent .given .0 .0) = cc in
-    rw (p, c .is-child .ensures .in-valid h, code .code-found .ensures) refl
+returns c = λ x y w f v. let p = c .before .if1 .taken in rw p (ap not (c .is-child-at .ensures x y (w p) f .in-valid v))
 
 returns-2 : tie.Need-returns-2
-returns-2 c = λ h. let p : c .before .before .before .args .parent ≡ Unlinked = cc in rw p refl
+returns-2 c = λ x y w f v. rw (c .if1 .left) refl
 
 pub is-no-child-spec : {M : Type 1} → statement M
-is-no-child-spec =
-    tie.close (tie.spec (λ c. search needs) (λ c κs. search needs) (λ c κs. search needs) (λ c. search needs) returns returns-2)
+is-no-child-spec = tie.close (tie.spec (λ c κs. search needs) returns returns-2)

@@ -1,0 +1,42 @@
+-- 19, then 1, and what the walk told where both pass.
+use mathlib.Core.Path.{refl, ap}
+use mathlib.Core.Bool.{not}
+use Rattle.records.specs.declared.State.{State}
+use Rattle.records.specs.Records.{lent}
+use Rattle.protocol.specs.Call.{plain}
+use Rattle.protocol.specs.Check.{shared}
+use Rattle.rose.specs.Steps.{both, Opened}
+use Rattle.rose.proofs.UsableAnswers.{sought-stands}
+use Rattle.rose.proofs.WalkAnswers.{usable-is, usable-covers}
+use Rattle.rose.proofs.Verdicts.{all, made, last, opened-usable}
+use borrow.Author.Needs.{needs}
+use Rattle.rose.proofs.usable.opening_of.Statement.{statement}
+use Rattle.rose.proofs.usable.opening_of.Tie as tie
+
+-- the state whose fields are lent
+abbrev lent-state : tie.Start → State
+lent-state c =
+    let b = c .args in
+    both (lent (b .own-count) (b .own-ids .now) (b .own-codes .now)) (lent (b .peer-count) (b .peer-ids .now) (b .peer-codes .now))
+
+returns : tie.Need-returns
+returns c =
+    let nineteen = c .before in let told = nineteen .before in let valid = told .before in let walked = valid .before in let code = walked .before in let found = code .before in
+    let sound-peer = found .before in let sound-own = sound-peer .before in let start = sound-own .before .before in
+    let T = start .args .table .now in let s = lent-state start in let w = walked .walk-records .ensures in
+    let v : Opened T s (c .then2 .result) =
+    all {P = Unit {0}} plain (shared T s) _ tt
+    (made (nineteen .then .ensures) (λ _. rw (sound-own .sound .ensures, sound-peer .sound2 .ensures) refl)
+    (made (c .then2 .ensures) (λ _. rw (valid .valid .ensures) (ap not (usable-is T s _ (w .covered)))) last)) in
+    record {
+      verdict = v;
+      found = found .record-of .ensures;
+      busy = λ p. let u = usable-covers T s _ (w .covered) (opened-usable T s _ v p) in w .busy (u .0) (u .1);
+      stands = λ p. sought-stands T s (start .args .sought) _ (found .record-of .ensures) _ (code .code-found .ensures) _ (w .entry (usable-covers T s _ (w .covered) (opened-usable T s _ v p) .1));
+    }
+
+pub opening-of-spec : {M : Type 1} → statement M
+opening-of-spec =
+    tie.close
+    (tie.spec (λ c κs. search needs) (λ c κs. search needs) (λ c κs. search needs) (λ c κs. search needs) (λ c κs. search needs)
+    (λ c κs. search needs) (λ c κs. search needs) (λ c κs. search needs) returns)

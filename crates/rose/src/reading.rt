@@ -1,0 +1,46 @@
+// A received APDU as it is parsed, and the own record that it leads to.
+use crate::usable::Sought;
+use crate::usable::own_parent;
+use apdu::Parsed;
+use apdu::parse::parse;
+use records::State;
+ghost use mathlib.Core.Path.{_≡_};
+ghost use mathlib.Core.List.{List};
+ghost use Prim.Native.Nat.{ℕ, _≤_};
+ghost use lib.ListN.{length};
+ghost use Rattle.records.specs.Limits.{octets};
+ghost use Rattle.apdu.specs.Parse.{parse};
+ghost use Rattle.apdu.specs.Reading.{readParsed};
+ghost use Rattle.protocol.specs.Check.{ownRecords};
+ghost use Rattle.rose.specs.Steps.{soughtIn, leadsTo};
+
+// An APDU as it is parsed; one that is too long for any is not looked at.
+pub(crate) fn read(x: &[u8]) -> Parsed
+    ensures { λ r. ⌜ (length (now (x .entry)) ≤ octets → readParsed (now (x .entry)) r ≡ parse (now (x .entry))) ⌝ }
+{
+    if x.len() > State::OCTETS {
+        return Parsed::BadlyStructured;
+    }
+    parse(x)
+}
+
+// The own record that an APDU leads to: the parent of an Invoke, the invocation of a Result or an Error.
+pub(crate) fn leads_to(parsed: Parsed) -> Sought
+    ensures { λ r. ⌜ ((x : List ℕ) (s : State) → soughtIn s r ≡ leadsTo (readParsed x parsed) (ownRecords s)) ⌝ }
+{
+    match parsed {
+        Parsed::Invoke {
+            id: _,
+            linked,
+            code: _,
+            value: _,
+        } => own_parent(linked),
+        Parsed::Result { id, body: _ } => Sought::Own(id),
+        Parsed::Error {
+            id,
+            code: _,
+            value: _,
+        } => Sought::Own(id),
+        _ => Sought::Nothing,
+    }
+}
