@@ -59,7 +59,8 @@ impl Generator<'_> {
         let value = self.value(row.map_or(Rule { kind: 0x02, optional: true }, |row| row.result_rule()));
         if !value.is_empty() || self.fault() {
             let other = self.random.pick(&self.model.operations).filter(|_| self.random.percent(60));
-            let returned = if self.fault() { other } else { row };
+            let wrong = self.fault() || self.trouble > 0 && self.random.percent(15);
+            let returned = if wrong { other } else { row };
             let inner = vec![self.code(returned.map(|row| row.code)), value];
             fields.push(self.apdu(0x30, inner));
         }
@@ -92,7 +93,7 @@ impl Generator<'_> {
     }
 
     /// A number as an element, at times in a longer form or in contents that are not shortest.
-    fn number(&mut self, identifier: u8, number: impl FnOnce(&mut Self) -> i32) -> Vec<u8> {
+    pub(crate) fn number(&mut self, identifier: u8, number: impl FnOnce(&mut Self) -> i32) -> Vec<u8> {
         let mut contents = integer_contents(number(self));
         if self.fault() && self.random.percent(25) {
             match self.random.below(4) {
@@ -122,7 +123,7 @@ impl Generator<'_> {
     }
 
     /// The fields in one element, at times with a field missing, repeated, replaced or out of place.
-    fn apdu(&mut self, identifier: u8, mut fields: Vec<Vec<u8>>) -> Vec<u8> {
+    pub(crate) fn apdu(&mut self, identifier: u8, mut fields: Vec<Vec<u8>>) -> Vec<u8> {
         fields.retain(|field| !field.is_empty());
         if self.fault() && self.random.percent(35) {
             self.spoil(&mut fields);

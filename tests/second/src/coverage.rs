@@ -5,6 +5,7 @@ use crate::cases;
 use crate::faults;
 use crate::frame;
 use crate::generate::{self, Group, Label, Seen};
+use crate::looked_up;
 use crate::model::Model;
 use crate::observe::{accepted_kinds, expects, record_limits, rejected_id_is_live, sort, value_limits};
 use crate::rows::Rows;
@@ -148,6 +149,7 @@ impl Default for Coverage {
         for (group, names) in groups() {
             names.iter().for_each(|name| coverage.row(label_row((group, name))));
         }
+        looked_up::rows().into_iter().for_each(|row| coverage.row(row));
         for kind in ["an invoke", "an answer", "a reject", "a request", "a forget", "refusal 18", "another refusal"] {
             coverage.row(format!("follow-up: accepted after {kind}"));
         }
@@ -189,6 +191,7 @@ impl Coverage {
         for limit in value_limits(call, seen) {
             self.count(format!("limit: {limit}"));
         }
+        looked_up::rows_of(seen).into_iter().for_each(|row| self.count(row));
         if let Some(label) = seen.label.filter(|label| expects(label.0, seen)) {
             self.count(label_row(label));
         }

@@ -1,5 +1,5 @@
 //! Scripts from a seed: episodes of calls that fit the state reached, with faults, limits and damage among them.
-//! The calls themselves are made in `requests`, `arrivals`, `limits` and `oddities`.
+//! The calls themselves are made in `requests`, `arrivals`, `lookups`, `limits` and `oddities`.
 
 use crate::answer::Answer;
 use crate::days::{self, Logged};
@@ -107,6 +107,7 @@ impl<'w> Generator<'w> {
                 12..=35 => self.limit(),
                 36..=66 => self.named_arrival(),
                 67..=84 => self.named_value(),
+                85..=88 => self.lookups(),
                 _ => self.episode(),
             }
         }
@@ -178,11 +179,20 @@ impl<'w> Generator<'w> {
             1 => self.set_state(&State::fresh()),
             2 => self.set(frame::STATE, &[0xFF; 515]),
             _ => {
-                let model = Model::random(&mut self.random);
+                let model = self.random_model();
                 self.set_model(model);
                 let state = self.random_state();
                 self.set_state(&state);
             }
+        }
+    }
+
+    /// A table for an episode: mostly a small one, now and then a full one or one with lists of drawn lengths.
+    fn random_model(&mut self) -> Model {
+        match self.random.below(25) {
+            0 => Model::full(&mut self.random),
+            1..=3 => Model::searched(&mut self.random),
+            _ => Model::random(&mut self.random),
         }
     }
 

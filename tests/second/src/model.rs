@@ -3,6 +3,7 @@
 
 use std::collections::BTreeSet;
 
+use crate::codes;
 use crate::random::Random;
 use crate::table::{Rule, Table};
 
@@ -93,7 +94,7 @@ impl Model {
             _ => random.between(2, 12),
         };
         let (operations, errors) = (random.between(1, most), random.between(0, most));
-        let mut model = Model::lists(random, operations, errors);
+        let mut model = Model::lists(random, [operations, errors], random_codes);
         let density = random.between(5, 80);
         model.error_pairs = model.allowed_error_pairs();
         model.error_pairs.retain(|_| random.percent(density));
@@ -111,7 +112,7 @@ impl Model {
 
     /// Parts of these lengths, at least nine operations; fewer pairs where there are not so many.
     pub fn sized(random: &mut Random, counts: [usize; 4]) -> Model {
-        let mut model = Model::lists(random, counts[0], counts[1]);
+        let mut model = Model::lists(random, [counts[0], counts[1]], random_codes);
         model.operations[0].class = 1 + random.octet() % 3;
         Model::settle(&mut model.operations[0]);
         for row in &mut model.operations[1..9] {
@@ -143,10 +144,26 @@ impl Model {
         model
     }
 
+    /// A valid table to look codes up in, its lists of drawn lengths; most errors are paired with up to three operations.
+    pub fn searched(random: &mut Random) -> Model {
+        let lengths = [0; 2].map(|_| codes::length(random));
+        let mut model = Model::lists(random, lengths, codes::spread);
+        let mut answered = BTreeSet::new();
+        for _ in 0..model.operations.len().min(3) {
+            let at = random.below(model.operations.len());
+            model.operations[at].class = random.between(2, 3) as u8;
+            Model::settle(&mut model.operations[at]);
+            answered.insert(at as u16);
+        }
+        model.error_pairs = model.allowed_error_pairs();
+        model.error_pairs.retain(|pair| answered.contains(&pair.0) && random.percent(90));
+        model
+    }
+
     /// Operations and errors with random rules, and no pairs.
-    fn lists(random: &mut Random, operations: usize, errors: usize) -> Model {
-        let operations = codes(random, operations).into_iter().map(|code| random_operation(random, code)).collect();
-        let errors = codes(random, errors).into_iter().map(|code| random_error(random, code)).collect();
+    fn lists(random: &mut Random, lengths: [usize; 2], codes: fn(&mut Random, usize) -> Vec<i32>) -> Model {
+        let operations = codes(random, lengths[0]).into_iter().map(|code| random_operation(random, code)).collect();
+        let errors = codes(random, lengths[1]).into_iter().map(|code| random_error(random, code)).collect();
         Model { operations, errors, ..Model::default() }
     }
 
@@ -246,12 +263,12 @@ pub fn any_type(random: &mut Random) -> u8 {
 }
 
 /// So many different codes, rising.
-fn codes(random: &mut Random, count: usize) -> BTreeSet<i32> {
+fn random_codes(random: &mut Random, count: usize) -> Vec<i32> {
     let mut codes = BTreeSet::new();
     while codes.len() < count {
         codes.insert(random.number());
     }
-    codes
+    codes.into_iter().collect()
 }
 
 fn pairs(operations: &[OperationRow], first: impl Fn(u8) -> bool, seconds: usize) -> Vec<(u16, u16)> {

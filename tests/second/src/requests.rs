@@ -3,6 +3,7 @@
 use crate::answer::Problem;
 use crate::apdu::Outgoing;
 use crate::cases;
+use crate::codes;
 use crate::frame::{self, Frame};
 use crate::generate::{free_id, live, side, Generator, Group};
 use crate::model::OperationRow;
@@ -144,11 +145,21 @@ impl Generator<'_> {
     }
 
     pub(crate) fn unknown_code(&mut self) -> i32 {
-        self.random.number_unless(|code| self.model.operation(code).is_some())
+        let codes: Vec<i32> = self.model.operations.iter().map(|row| row.code).collect();
+        self.absent_code(&codes)
     }
 
     fn unknown_error(&mut self) -> i32 {
-        self.random.number_unless(|code| self.model.errors.iter().any(|row| row.code == code))
+        let codes: Vec<i32> = self.model.errors.iter().map(|row| row.code).collect();
+        self.absent_code(&codes)
+    }
+
+    /// A code that is not in the list, often next to one that is.
+    fn absent_code(&mut self, codes: &[i32]) -> i32 {
+        match self.random.percent(50) {
+            true => codes::absent(codes, &mut self.random),
+            false => self.random.number_unless(|code| codes.contains(&code)),
+        }
     }
 
     /// A value for a rule, empty for none; wrong in one of many ways if that is to go wrong.

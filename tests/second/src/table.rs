@@ -134,13 +134,13 @@ impl<'a> Table<'a> {
 
     #[inline]
     pub fn operation(&self, wanted: i32) -> Option<Operation> {
-        let index = self.operations.binary_search_by_key(&wanted, |entry| code(entry)).ok()?;
+        let index = index(self.operations, wanted)?;
         Some(operation(index, &self.operations[index]))
     }
 
     #[inline]
     pub fn error(&self, wanted: i32) -> Option<ErrorEntry> {
-        let index = self.errors.binary_search_by_key(&wanted, |entry| code(entry)).ok()?;
+        let index = index(self.errors, wanted)?;
         Some(error(index, &self.errors[index]))
     }
 
@@ -159,6 +159,12 @@ impl<'a> Table<'a> {
         let first = self.child_pairs.partition_point(|entry| *entry < pair(parent.index, 0));
         self.child_pairs.get(first).is_some_and(|entry| indexes(entry).0 == parent.index)
     }
+}
+
+/// Where a code stands in a list whose codes rise.
+#[inline]
+fn index<const SIZE: usize>(entries: &[[u8; SIZE]], wanted: i32) -> Option<usize> {
+    entries.binary_search_by_key(&wanted, |entry| code(entry)).ok()
 }
 
 /// Operations that may stand first in a pair, one bit for each index.

@@ -6,6 +6,7 @@ mod common;
 mod examples;
 mod gate;
 mod lines;
+mod lookups;
 mod readings;
 mod replays;
 mod rules;
