@@ -14,7 +14,7 @@ use codes::Place;
 use codes::find;
 use records::Code;
 
-// Where the operation of a code stands.
+// Where the operation of a code stands; its entry has 8 octets.
 pub fn operation_place(table: &[u8], code: Code) -> Place
     ensures { λ r. ⌜ PlaceOf (now (table .entry)) Part.Operations code r ⌝ }
 {
@@ -27,7 +27,7 @@ pub fn operation_place(table: &[u8], code: Code) -> Place
     )
 }
 
-// Where the error of a code stands.
+// Where the error of a code stands; its entry has 6 octets.
 pub fn error_place(table: &[u8], code: Code) -> Place
     ensures { λ r. ⌜ PlaceOf (now (table .entry)) Part.Errors code r ⌝ }
 {

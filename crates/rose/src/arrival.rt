@@ -223,7 +223,7 @@ pub(crate) fn arrive(
             value,
         } => arrive_invoke(opened, count, ids, table, x, id, linked, code, value),
         Parsed::Result { id, body } => arrive_result(opened, table, x, id, body),
-        Parsed::Error { id, code, value } => { arrive_error(opened, table, x, id, code, value) }
+        Parsed::Error { id, code, value } => arrive_error(opened, table, x, id, code, value),
         Parsed::InvokeReject { id, problem } => indicated(
             Indication::InvokeRejected { id, problem },
             Change::Retires(id),
