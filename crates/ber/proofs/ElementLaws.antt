@@ -1,21 +1,23 @@
--- Laws of elements and contents for callers: over `size` and `contentsOf`, so that a richer answer of the check leaves them as they are.
+-- Laws of elements and contents for callers: over `size`, `insideOf` and `contentsOf`, so that a richer answer of the check leaves them as they are.
 use mathlib.Core.Path.{_≡_, refl, sym, subst, ap, _∙_}
-use mathlib.Core.Bool.{Bool, true, false, cond}
+use mathlib.Core.Bool.{Bool, true, false, cond, _&&_, false≢true}
 use mathlib.Core.List.{List, [], _∷_}
 use mathlib.Core.Option.{Option, some, none}
-use Prim.Native.Nat.{ℕ, zero, suc, _-_, _≤_}
+use Prim.Native.Nat.{ℕ, zero, suc, _+_, _-_, _≤_, _<_}
 use native.Mathlib.Omega.{arith}
-use lib.ListN.{length, drop, length-drop}
-use borrow.Author.Tests.{eq-eqb, eqb-true}
-use Rattle.base.proofs.Tests.{cond-elim, cond-true, and-true, and-left, and-right}
+use lib.ListN.{length, getD, drop, length-drop}
+use lib.Dec.{leb, eqb}
+use borrow.Author.Tests.{eq-eqb, ne-eqb, eqb-true, le-leb, lt-leb, leb-true}
+use Rattle.base.proofs.Tests.{cond-elim, cond-true, cond-false, and-true, and-left, and-right, and-false-left, and-false-right, both-ways}
+use Rattle.base.specs.Octets.{part}
 use Rattle.ber.specs.declared.header.Header.{Header}
-use Rattle.ber.specs.declared.header.Header.the-variants.{At, NoHeader}
+use Rattle.ber.specs.declared.header.Header.the-variants.{At, Open, NoHeader}
 use Rattle.ber.specs.declared.element.Checked.{Checked}
 use Rattle.ber.specs.declared.element.Checked.the-variants.{Good, NoElement}
-use Rattle.ber.specs.Header.{headerOf}
-use Rattle.ber.specs.Rule.{contentRule}
-use Rattle.base.specs.Octets.{part}
-use Rattle.ber.specs.Element.{constructed, makesElement, restRight, elementsIn, elementWith, elementOf, contentsOf, sizeIn, size, fills, wellFormed}
+use Rattle.ber.specs.declared.element.Inside.{Inside}
+use Rattle.ber.specs.declared.element.Inside.the-variants.{Ended, Closed, Broken}
+use Rattle.ber.specs.Header.{oneOf, identifierOctets, headerOf}
+use Rattle.ber.specs.Element.{closes, behind, behindFirst, elementsIn, fillsAll, closedBehind, makesElement, elementWith, elementOf, insideOf, contentsOf, sizeIn, size, fills, wellFormed}
 use Rattle.ber.proofs.HeaderLaws.{Bounded, header-bounded}
 
 -- ---- the size and the answer of the check
@@ -36,22 +38,113 @@ size-good d s n q = go (elementOf d s) refl q
     go (Good k) e x = cc
     go NoElement e x = cc
 
--- ---- an element lies within the octets
+-- ---- closing octets
+
+module _ (s : List ℕ) where
+  pub closing-short : length s < 2 → false ≡ closes s
+  unfolding closes
+  closing-short h = sym (and-false-left (leb 2 (length s)) _ (lt-leb 2 (length s) h))
+
+  pub closing-not : (getD s 0 0 ≡ 0 → ⊥) → false ≡ closes s
+  unfolding closes
+  closing-not n = sym (and-false-right (leb 2 (length s)) _ (and-false-left (eqb (getD s 0 0) 0) _ (ne-eqb (getD s 0 0) 0 n)))
+
+  pub closing-second : 2 ≤ length s → getD s 0 0 ≡ 0 → eqb (getD s 1 0) 0 ≡ closes s
+  unfolding closes
+  closing-second h e = rw (le-leb 2 (length s) h, eq-eqb (getD s 0 0) 0 e) refl
+
+  pub closing-length : closes s ≡ true → 2 ≤ length s
+  unfolding closes
+  closing-length e = leb-true 2 (length s) (and-left (leb 2 (length s)) _ e)
+
+  closing-first : closes s ≡ true → getD s 0 0 ≡ 0
+  unfolding closes
+  closing-first e = eqb-true (getD s 0 0) 0 (and-left _ _ (and-right (leb 2 (length s)) _ e))
+
+-- identifier 00 is refused, so that no element starts as closing octets do
+closing-refused : (s : List ℕ) → closes s ≡ true → identifierOctets s ≡ 0
+unfolding identifierOctets oneOf
+closing-refused [] e = refl
+closing-refused (b ∷ s) e = rw (closing-first (b ∷ s) e) refl
+
+pub not-closing : (s : List ℕ) → (identifierOctets s ≡ 0 → ⊥) → closes s ≡ false
+not-closing s n = go (closes s) refl
+  where
+    go : (b : Bool) → closes s ≡ b → b ≡ false
+    go true e = absurd (n (closing-refused s e))
+    go false e = refl
+
+closing-headless : (s : List ℕ) → closes s ≡ true → headerOf s ≡ NoHeader
+unfolding headerOf
+closing-headless s e = sym (cond-true NoHeader _ (eq-eqb (identifierOctets s) 0 (closing-refused s e)))
+
+closing-none : (d : ℕ) (s : List ℕ) → closes s ≡ true → elementOf d s ≡ NoElement
+unfolding elementOf elementWith
+closing-none zero s e = refl
+closing-none (suc d) s e = ap (elementWith (insideOf d) s) (closing-headless s e)
+
+good-opens : (d : ℕ) (s : List ℕ) (n : ℕ) → elementOf d s ≡ Good n → closes s ≡ false
+good-opens d s n q = go (closes s) refl
+  where
+    go : (b : Bool) → closes s ≡ b → b ≡ false
+    go true e = let w = closing-none d s e in cc
+    go false e = refl
+
+-- ---- what is found lies within the octets
 
 abbrev CheckedWithin : ℕ → Checked → Type 0
 CheckedWithin m NoElement = Unit
 CheckedWithin m (Good n) = (2 ≤ n) × (n ≤ m)
 
-with-within : (inside : List ℕ → Bool) (s : List ℕ) (h : Header) → Bounded s h → CheckedWithin (length s) (elementWith inside s h)
+-- elements reach the end of m octets, or closing octets within them
+abbrev pub Reaches : ℕ → Inside → Type 0
+Reaches m (Ended n) = n ≡ m
+Reaches m (Closed n) = n + 2 ≤ m
+Reaches m Broken = Unit
+
+behind-reaches : (m n : ℕ) (i : Inside) → n ≤ m → Reaches (m - n) i → Reaches m (behind n i)
+unfolding behind
+behind-reaches m n (Ended k) h w = omega arith
+behind-reaches m n (Closed k) h w = omega arith
+behind-reaches m n Broken h w = tt
+
+first-reaches : (g : List ℕ → Inside) (s : List ℕ) (r : Checked) → CheckedWithin (length s) r → ((n : ℕ) → r ≡ Good n → Reaches (length (drop n s)) (g (drop n s)))
+    → Reaches (length s) (behindFirst g s r)
+unfolding behindFirst
+first-reaches g s NoElement w h = tt
+first-reaches g s (Good n) w h =
+    behind-reaches (length s) n (g (drop n s)) (w .1) (subst (λ (m : ℕ). Reaches m (g (drop n s))) (length-drop n s) (h n refl))
+
+elements-reach : (f : List ℕ → Checked) → ((s : List ℕ) → CheckedWithin (length s) (f s)) → (m : ℕ) (s : List ℕ) → length s ≤ m → Reaches (length s) (elementsIn f m s)
+unfolding elementsIn
+elements-reach f p zero [] h = refl
+elements-reach f p zero (b ∷ s) h = absurd (omega arith)
+elements-reach f p (suc m) [] h = refl
+elements-reach f p (suc m) (b ∷ s) h =
+    cond-elim (Reaches (suc (length s))) (closes (b ∷ s)) (Closed 0) _ (λ e. omega (arith, closing-length (b ∷ s) e))
+    (λ _. first-reaches (elementsIn f m) (b ∷ s) (f (b ∷ s)) (p (b ∷ s))
+    (λ n e. elements-reach f p m (drop n (b ∷ s)) (omega (arith, length-drop n (b ∷ s), subst (CheckedWithin (length (b ∷ s))) e (p (b ∷ s))))))
+
+closed-within : (m a : ℕ) (i : Inside) → 2 ≤ a → a ≤ m → Reaches (m - a) i → CheckedWithin m (closedBehind a i)
+unfolding closedBehind
+closed-within m a (Ended k) h o w = tt
+closed-within m a (Closed k) h o w = omega arith
+closed-within m a Broken h o w = tt
+
+with-within : (g : List ℕ → Inside) (s : List ℕ) (h : Header) → ((t : List ℕ) → Reaches (length t) (g t)) → Bounded s h → CheckedWithin (length s) (elementWith g s h)
 unfolding elementWith
-with-within inside s NoHeader b = tt
-with-within inside s (At id a e) b =
-    cond-elim (CheckedWithin (length s)) (makesElement inside id (part s a e)) (Good e) NoElement (λ _. omega arith) (λ _. tt)
+with-within g s NoHeader w b = tt
+with-within g s (At id a e) w b = cond-elim (CheckedWithin (length s)) (makesElement g id (part s a e)) (Good e) NoElement (λ _. omega arith) (λ _. tt)
+with-within g s (Open id a) w b =
+    closed-within (length s) a (g (drop a s)) (b .start) (b .within) (subst (λ (m : ℕ). Reaches m (g (drop a s))) (length-drop a s) (w (drop a s)))
 
 element-within : (d : ℕ) (s : List ℕ) → CheckedWithin (length s) (elementOf d s)
 unfolding elementOf
 element-within zero s = tt
-element-within (suc d) s = with-within (contentsOf d) s (headerOf s) (header-bounded s)
+element-within (suc d) s = with-within (insideOf d) s (headerOf s) (λ t. elements-reach (elementOf d) (element-within d) (length t) t (omega arith)) (header-bounded s)
+
+pub inside-reaches : (d : ℕ) (s : List ℕ) → Reaches (length s) (insideOf d s)
+inside-reaches d s = elements-reach (elementOf d) (element-within d) (length s) s (omega arith)
 
 good-bounds : (d : ℕ) (s : List ℕ) (n : ℕ) → elementOf d s ≡ Good n → (2 ≤ n) × (n ≤ length s)
 good-bounds d s n p = subst (CheckedWithin (length s)) p (element-within d s)
@@ -61,101 +154,133 @@ element-bounds d s n p = good-bounds d s n (size-good d s n p)
 
 -- ---- the bound on the count of elements does not matter beyond the octets
 
-rest-same : (g h : List ℕ → Bool) (s : List ℕ) (r : Checked) → ((k : ℕ) → r ≡ Good k → g (drop k s) ≡ h (drop k s)) → restRight g s r ≡ restRight h s r
-unfolding restRight
-rest-same g h s NoElement e = refl
-rest-same g h s (Good k) e = e k refl
+first-same : (g h : List ℕ → Inside) (s : List ℕ) (r : Checked) → ((k : ℕ) → r ≡ Good k → g (drop k s) ≡ h (drop k s)) → behindFirst g s r ≡ behindFirst h s r
+unfolding behindFirst
+first-same g h s NoElement e = refl
+first-same g h s (Good k) e = ap (behind k) (e k refl)
 
--- each element takes an octet at least
-abbrev pub Progress : (List ℕ → Checked) → Type 0
-Progress f = (s : List ℕ) (n : ℕ) → f s ≡ Good n → 1 ≤ n
-
-pub elements-fuel : (f : List ℕ → Checked) → Progress f → (m n : ℕ) (s : List ℕ) → length s ≤ m → length s ≤ n → elementsIn f m s ≡ elementsIn f n s
+pub elements-fuel : (d m n : ℕ) (s : List ℕ) → length s ≤ m → length s ≤ n → elementsIn (elementOf d) m s ≡ elementsIn (elementOf d) n s
 unfolding elementsIn
-elements-fuel f p zero zero s h k = refl
-elements-fuel f p zero (suc n) [] h k = refl
-elements-fuel f p zero (suc n) (b ∷ s) h k = absurd (omega arith)
-elements-fuel f p (suc m) zero [] h k = refl
-elements-fuel f p (suc m) zero (b ∷ s) h k = absurd (omega arith)
-elements-fuel f p (suc m) (suc n) [] h k = refl
-elements-fuel f p (suc m) (suc n) (b ∷ s) h k =
-    rest-same (elementsIn f m) (elementsIn f n) (b ∷ s) (f (b ∷ s))
-    (λ i e. elements-fuel f p m n (drop i (b ∷ s)) (omega (arith, length-drop i (b ∷ s), p (b ∷ s) i e)) (omega (arith, length-drop i (b ∷ s), p (b ∷ s) i e)))
+elements-fuel d zero zero s h k = refl
+elements-fuel d zero (suc n) [] h k = refl
+elements-fuel d zero (suc n) (b ∷ s) h k = absurd (omega arith)
+elements-fuel d (suc m) zero [] h k = refl
+elements-fuel d (suc m) zero (b ∷ s) h k = absurd (omega arith)
+elements-fuel d (suc m) (suc n) [] h k = refl
+elements-fuel d (suc m) (suc n) (b ∷ s) h k =
+    ap (cond (closes (b ∷ s)) (Closed 0))
+    (first-same (elementsIn (elementOf d) m) (elementsIn (elementOf d) n) (b ∷ s) (elementOf d (b ∷ s))
+    (λ i e. elements-fuel d m n (drop i (b ∷ s)) (omega (arith, length-drop i (b ∷ s), good-bounds d (b ∷ s) i e)) (omega (arith, length-drop i (b ∷ s), good-bounds d (b ∷ s) i e))))
 
-elements-step : (f : List ℕ → Checked) → Progress f → (s : List ℕ) (n : ℕ) → 1 ≤ length s → f s ≡ Good n → elementsIn f (length s) s ≡ elementsIn f (length (drop n s)) (drop n s)
-unfolding elementsIn restRight
-elements-step f p [] n h e = absurd (omega arith)
-elements-step f p (b ∷ s) n h e =
-    ap (restRight (elementsIn f (length s)) (b ∷ s)) e
-    ∙ elements-fuel f p (length s) (length (drop n (b ∷ s))) (drop n (b ∷ s)) (omega (arith, length-drop n (b ∷ s), p (b ∷ s) n e)) (omega arith)
+-- ---- at most so many elements, by the first
 
-elements-fault : (f : List ℕ → Checked) (s : List ℕ) → 1 ≤ length s → f s ≡ NoElement → elementsIn f (length s) s ≡ false
-unfolding elementsIn restRight
-elements-fault f [] h e = absurd (omega arith)
-elements-fault f (b ∷ s) h e = ap (restRight (elementsIn f (length s)) (b ∷ s)) e
+module _ (d m : ℕ) where
+  pub elements-step : (s : List ℕ) (n : ℕ) → elementOf d s ≡ Good n → elementsIn (elementOf d) (suc m) s ≡ behind n (elementsIn (elementOf d) m (drop n s))
+  unfolding elementsIn behindFirst
+  elements-step [] n e = absurd (omega (arith, good-bounds d [] n e))
+  elements-step (b ∷ s) n e = sym (cond-false (Closed 0) _ (good-opens d (b ∷ s) n e)) ∙ ap (behindFirst (elementsIn (elementOf d) m) (b ∷ s)) e
 
--- ---- walking contents: an element and contents, or nothing
+  pub elements-fault : (s : List ℕ) → 1 ≤ length s → closes s ≡ false → elementOf d s ≡ NoElement → elementsIn (elementOf d) (suc m) s ≡ Broken
+  unfolding elementsIn behindFirst
+  elements-fault [] h z e = absurd (omega arith)
+  elements-fault (b ∷ s) h z e = sym (cond-false (Closed 0) _ z) ∙ ap (behindFirst (elementsIn (elementOf d) m) (b ∷ s)) e
+
+  pub elements-closed : (s : List ℕ) → closes s ≡ true → elementsIn (elementOf d) (suc m) s ≡ Closed 0
+  unfolding elementsIn
+  elements-closed [] z = absurd (omega (arith, closing-length [] z))
+  elements-closed (b ∷ s) z = sym (cond-true (Closed 0) _ z)
+
+pub elements-end : (d m : ℕ) (s : List ℕ) → length s ≡ 0 → elementsIn (elementOf d) m s ≡ Ended 0
+unfolding elementsIn
+elements-end d zero s h = refl
+elements-end d (suc m) [] h = refl
+elements-end d (suc m) (b ∷ s) h = absurd (omega arith)
+
+-- ---- all of them: an element and what is behind it, closing octets, or nothing
+
+module _ (d : ℕ) (s : List ℕ) where
+  as-many : (m : ℕ) → 1 ≤ length s → length s ≤ suc m → insideOf d s ≡ elementsIn (elementOf d) (suc m) s
+  as-many m h k = elements-fuel d (length s) (suc m) s (omega arith) k
+
+  pub inside-cons : (n : ℕ) → size d s ≡ some n → insideOf d s ≡ behind n (insideOf d (drop n s))
+  inside-cons n q =
+      let e = size-good d s n q in
+      let b = good-bounds d s n e in
+      as-many (length s) (omega arith) (omega arith) ∙ elements-step d (length s) s n e
+      ∙ ap (behind n) (elements-fuel d (length s) (length (drop n s)) (drop n s) (omega (arith, length-drop n s)) (omega arith))
+
+  pub inside-closed : closes s ≡ true → insideOf d s ≡ Closed 0
+  inside-closed z = as-many (length s) (omega (arith, closing-length s z)) (omega arith) ∙ elements-closed d (length s) s z
+
+  pub inside-fault : 1 ≤ length s → closes s ≡ false → elementOf d s ≡ NoElement → insideOf d s ≡ Broken
+  inside-fault h z e = as-many (length s) h (omega arith) ∙ elements-fault d (length s) s h z e
+
+-- ---- walking contents
+
+fills-behind : (m n : ℕ) (i : Inside) → n ≤ m → fillsAll m (behind n i) ≡ fillsAll (m - n) i
+unfolding fillsAll behind
+fills-behind m n (Ended k) h =
+    both-ways (eqb (n + k) m) (eqb k (m - n)) (λ e. eq-eqb k (m - n) (omega (arith, eqb-true (n + k) m e))) (λ e. eq-eqb (n + k) m (omega (arith, eqb-true k (m - n) e)))
+fills-behind m n (Closed k) h = refl
+fills-behind m n Broken h = refl
 
 pub contents-none : (d : ℕ) → contentsOf d [] ≡ true
-unfolding elementsIn
+unfolding elementsIn fillsAll
 contents-none d = refl
 
 pub contents-cons : (d : ℕ) (s : List ℕ) (n : ℕ) → size d s ≡ some n → contentsOf d s ≡ contentsOf d (drop n s)
 contents-cons d s n q =
-    elements-step (elementOf d) (λ t k e. omega (arith, good-bounds d t k e)) s n (omega (arith, element-bounds d s n q)) (size-good d s n q)
+    ap (fillsAll (length s)) (inside-cons d s n q) ∙ fills-behind (length s) n (insideOf d (drop n s)) (element-bounds d s n q .1)
+    ∙ ap (λ (m : ℕ). fillsAll m (insideOf d (drop n s))) (sym (length-drop n s))
 
 pub contents-fault : (d : ℕ) (s : List ℕ) → 1 ≤ length s → elementOf d s ≡ NoElement → contentsOf d s ≡ false
-contents-fault d s h e = elements-fault (elementOf d) s h e
-
--- ---- an element, as what makes it one
-
-pub record Element (d : ℕ) (s : List ℕ) (n : ℕ) : Type 0 where
-  pub id : ℕ
-  pub a : ℕ
-  pub level : 1 ≤ d
-  pub header : headerOf s ≡ At id a n
-  pub rule : contentRule id (part s a n) ≡ true
-  pub inside : cond (constructed id) (contentsOf (d - 1) (part s a n)) true ≡ true
-
-good-facts : (d : ℕ) (s : List ℕ) (n : ℕ) → elementOf d s ≡ Good n → Element d s n
-unfolding elementOf elementWith
-good-facts zero s n q = let z : _≡_ {A = ℕ} 0 1 = cc in absurd (omega arith)
-good-facts (suc d) s n q = go (headerOf s) refl q
+unfolding fillsAll
+contents-fault d s h e = go (closes s) refl
   where
-    go : (h : Header) → headerOf s ≡ h → elementWith (contentsOf d) s h ≡ Good n → Element (suc d) s n
-    go NoHeader w x = let z : _≡_ {A = ℕ} 0 1 = cc in absurd (omega arith)
-    go (At id a e) w x =
-        cond-elim (λ (c : Checked). c ≡ Good n → Element (suc d) s n) (makesElement (contentsOf d) id (part s a e)) (Good e) NoElement
-        (λ f y.
-        let m : e ≡ n = cc in
-        let o : d ≡ suc d - 1 = omega arith in
-        record {
-          id = id;
-          a = a;
-          level = omega arith;
-          header = w ∙ ap (At id a) m;
-          rule = ap (λ (x : ℕ). contentRule id (part s a x)) (sym m) ∙ and-left _ _ f;
-          inside =
-              ap (λ (x : ℕ). cond (constructed id) (contentsOf x (part s a n)) true) (sym o)
-              ∙ ap (λ (x : ℕ). cond (constructed id) (contentsOf d (part s a x)) true) (sym m)
-              ∙ and-right (contentRule id (part s a e)) _ f;
-        })
-        (λ _ y. let z : _≡_ {A = ℕ} 0 1 = cc in absurd (omega arith))
-        x
+    go : (b : Bool) → closes s ≡ b → contentsOf d s ≡ false
+    go true z = ap (fillsAll (length s)) (inside-closed d s z)
+    go false z = ap (fillsAll (length s)) (inside-fault d s h z e)
 
-pub element-facts : (d : ℕ) (s : List ℕ) (n : ℕ) → size d s ≡ some n → Element d s n
-element-facts d s n q = good-facts d s n (size-good d s n q)
+-- contents that are not empty start with an element
+pub record First (d : ℕ) (s : List ℕ) : Type 0 where
+  pub n : ℕ
+  pub element : size d s ≡ some n
+  pub others : contentsOf d (drop n s) ≡ true
 
-good-made : (d : ℕ) (s : List ℕ) (n : ℕ) → Element d s n → elementOf d s ≡ Good n
-unfolding elementOf elementWith
-good-made zero s n f = absurd (omega arith)
-good-made (suc d) s n f =
-    let o : suc d - 1 ≡ d = omega arith in
-    ap (elementWith (contentsOf d) s) (f .header)
-    ∙ sym (cond-true (Good n) NoElement (and-true (f .rule) (ap (λ (x : ℕ). cond (constructed (f .id)) (contentsOf x (part s (f .a) n)) true) (sym o) ∙ f .inside)))
+pub contents-first : (d : ℕ) (s : List ℕ) → 1 ≤ length s → contentsOf d s ≡ true → First d s
+contents-first d s h q = go (elementOf d s) refl
+  where
+    go : (r : Checked) → elementOf d s ≡ r → First d s
+    go (Good n) e = record { n = n; element = good-size d s n e; others = sym (contents-cons d s n (good-size d s n e)) ∙ q }
+    go NoElement e = absurd (false≢true (sym (contents-fault d s h e) ∙ q))
 
-pub element-made : (d : ℕ) (s : List ℕ) (n : ℕ) → Element d s n → size d s ≡ some n
-element-made d s n f = good-size d s n (good-made d s n f)
+-- elements up to closing octets: these come at once, or behind an element
+pub record Later (d : ℕ) (s : List ℕ) (k : ℕ) : Type 0 where
+  pub n : ℕ
+  pub left : ℕ
+  pub element : size d s ≡ some n
+  pub others : insideOf d (drop n s) ≡ Closed left
+  pub sum : k ≡ n + left
+
+pub closed-first : {P : Type 0} (d : ℕ) (s : List ℕ) (k : ℕ) → insideOf d s ≡ Closed k → (closes s ≡ true → k ≡ 0 → P) → (Later d s k → P) → P
+unfolding behind
+closed-first {P} d s k q now later = start (closes s) refl
+  where
+    next : (n : ℕ) → elementOf d s ≡ Good n → (i : Inside) → insideOf d (drop n s) ≡ i → behind n i ≡ Closed k → P
+    next n e (Ended l) u x = let z : _≡_ {A = ℕ} 0 1 = cc in absurd (omega arith)
+    next n e (Closed l) u x = later (record { n = n; left = l; element = good-size d s n e; others = u; sum = sym (cc) })
+    next n e Broken u x = let z : _≡_ {A = ℕ} 0 1 = cc in absurd (omega arith)
+
+    some-octet : 1 ≤ length s
+    some-octet = omega (arith, subst (Reaches (length s)) q (inside-reaches d s))
+
+    found : (r : Checked) → elementOf d s ≡ r → closes s ≡ false → P
+    found (Good n) e z = next n e (insideOf d (drop n s)) refl (sym (inside-cons d s n (good-size d s n e)) ∙ q)
+    found NoElement e z = let w = inside-fault d s some-octet z e in let z : _≡_ {A = ℕ} 0 1 = cc in absurd (omega arith)
+
+    start : (b : Bool) → closes s ≡ b → P
+    start true z = let w = inside-closed d s z in now z (cc)
+    start false z = found (elementOf d s) refl z
 
 -- ---- one element that fills the octets
 

@@ -4,10 +4,12 @@ mod HeaderAnswers
 mod RuleAnswers
 pub mod HeaderFacts
 pub mod ElementLaws
-pub mod ElementAnswers
+pub mod ElementFacts
 pub mod Locality
+pub mod ElementAnswers
+pub mod FrameLaws
+pub mod ElementOctets
 mod IntegerAnswers
 pub mod IntegerLaws
 pub mod LengthLaws
-pub mod ElementOctets
 pub mod OutputLaws

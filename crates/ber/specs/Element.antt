@@ -1,51 +1,80 @@
--- Elements and contents: document 01, 'Well-formed octets'.
-use Prim.Native.Nat.{ℕ, zero, suc, _+_, _-_, _/_, _%_}
+-- Elements and contents: document 01, 'Well-formed octets', with document 02's request Three, indefinite lengths.
+use Prim.Native.Nat.{ℕ, zero, suc, _+_, _-_}
 use mathlib.Core.List.{List, [], _∷_, _++_}
 use mathlib.Core.Bool.{Bool, true, false, cond, _&&_}
 use mathlib.Core.Option.{Option, some, none}
-use lib.ListN.{length, drop}
-use lib.Dec.{eqb}
+use lib.ListN.{length, getD, drop}
+use lib.Dec.{leb, eqb}
 use Rattle.base.specs.Octets.{part}
 use Rattle.ber.specs.declared.header.Header.{Header}
-use Rattle.ber.specs.declared.header.Header.the-variants.{At, NoHeader}
+use Rattle.ber.specs.declared.header.Header.the-variants.{At, Open, NoHeader}
 use Rattle.ber.specs.declared.element.Checked.{Checked}
 use Rattle.ber.specs.declared.element.Checked.the-variants.{Good, NoElement}
-use Rattle.ber.specs.Header.{headerOf, lengthOctets}
+use Rattle.ber.specs.declared.element.Inside.{Inside}
+use Rattle.ber.specs.declared.element.Inside.the-variants.{Ended, Closed, Broken}
+use Rattle.ber.specs.declared.element.Frame.{Frame}
+use Rattle.ber.specs.declared.element.Frame.the-variants.{Of, NoFrame}
+use Rattle.ber.specs.Header.{constructed, headerOf, lengthOctets}
 use Rattle.ber.specs.Rule.{contentRule}
 
--- bit 6 of the identifier
-unfoldable pub constructed : ℕ → Bool
-constructed id = eqb (id / 32 % 2) 1
+-- ---- elements end to end
 
--- what stands in s behind its first element is right
-unfoldable pub restRight : (List ℕ → Bool) → List ℕ → Checked → Bool
-restRight right s NoElement = false
-restRight right s (Good k) = right (drop k s)
+-- the closing octets 00 00 stand at the front of s; they are no element, and no level
+unfoldable pub closes : List ℕ → Bool
+closes s = leb 2 (length s) && (eqb (getD s 0 0) 0x00 && eqb (getD s 1 0) 0x00)
 
--- s is elements, end to end, at most n of them; `first` checks the element at the front
-unfoldable pub elementsIn : (List ℕ → Checked) → ℕ → List ℕ → Bool
-elementsIn first zero [] = true
-elementsIn first zero (b ∷ s) = false
-elementsIn first (suc n) [] = true
-elementsIn first (suc n) (b ∷ s) = restRight (elementsIn first n) (b ∷ s) (first (b ∷ s))
+-- what was found behind k octets of elements
+unfoldable pub behind : ℕ → Inside → Inside
+behind k (Ended n) = Ended (k + n)
+behind k (Closed n) = Closed (k + n)
+behind k Broken = Broken
 
--- contents c make an element under an identifier: they follow its rule, and those of a constructed one are elements, which `inside` checks
-abbrev pub makesElement : (List ℕ → Bool) → ℕ → List ℕ → Bool
-makesElement inside id c = contentRule id c && cond (constructed id) (inside c) true
+unfoldable pub behindFirst : (List ℕ → Inside) → List ℕ → Checked → Inside
+behindFirst rest s NoElement = Broken
+behindFirst rest s (Good k) = behind k (rest (drop k s))
+
+-- the elements from the front of s on, at most n of them, up to closing octets or the end; `first` checks the element at the front
+unfoldable pub elementsIn : (List ℕ → Checked) → ℕ → List ℕ → Inside
+elementsIn first zero s = Ended 0
+elementsIn first (suc n) [] = Ended 0
+elementsIn first (suc n) (b ∷ s) = cond (closes (b ∷ s)) (Closed 0) (behindFirst (elementsIn first n) (b ∷ s) (first (b ∷ s)))
+
+-- ---- an element
+
+-- the contents of a definite length: they are elements to the end of their n octets, and closing octets have no place there
+unfoldable pub fillsAll : ℕ → Inside → Bool
+fillsAll n (Ended k) = eqb k n
+fillsAll n (Closed k) = false
+fillsAll n Broken = false
+
+-- the contents of an indefinite length, from a on: they are elements up to the first closing octets directly among them
+unfoldable pub closedBehind : ℕ → Inside → Checked
+closedBehind a (Ended k) = NoElement
+closedBehind a (Closed k) = Good (a + k + 2)
+closedBehind a Broken = NoElement
+
+-- contents c make an element under an identifier: they follow its rule, and those of a constructed one are elements, which `inside` finds
+abbrev pub makesElement : (List ℕ → Inside) → ℕ → List ℕ → Bool
+makesElement inside id c = contentRule id c && cond (constructed id) (fillsAll (length c) (inside c)) true
 
 -- an element with this header
-unfoldable pub elementWith : (List ℕ → Bool) → List ℕ → Header → Checked
+unfoldable pub elementWith : (List ℕ → Inside) → List ℕ → Header → Checked
 elementWith inside s NoHeader = NoElement
 elementWith inside s (At id a e) = cond (makesElement inside id (part s a e)) (Good e) NoElement
+elementWith inside s (Open id a) = closedBehind a (inside (drop a s))
 
 -- the element at the front of s, with so many levels left: the outermost of 16 is level 1, and level 17 is refused
 unfoldable pub elementOf : ℕ → List ℕ → Checked
 elementOf zero s = NoElement
 elementOf (suc d) s = elementWith (λ c. elementsIn (elementOf d) (length c) c) s (headerOf s)
 
+-- the elements from the front of c on, with so many levels left; each takes an octet at least
+abbrev pub insideOf : ℕ → List ℕ → Inside
+insideOf d c = elementsIn (elementOf d) (length c) c
+
 -- c is elements, end to end, with so many levels left
 abbrev pub contentsOf : ℕ → List ℕ → Bool
-contentsOf d c = elementsIn (elementOf d) (length c) c
+contentsOf d c = fillsAll (length c) (insideOf d c)
 
 -- ---- what other crates go by
 
@@ -53,7 +82,7 @@ unfoldable pub sizeIn : Checked → Option ℕ
 sizeIn (Good n) = some n
 sizeIn NoElement = none
 
--- how many octets the element at the front of s takes, if there is one
+-- how many octets the element at the front of s takes, closing octets included, if there is one
 unfoldable pub size : ℕ → List ℕ → Option ℕ
 size d s = sizeIn (elementOf d s)
 
@@ -64,6 +93,15 @@ fills n none = false
 -- s is one element, of at most d levels
 unfoldable pub wellFormed : ℕ → List ℕ → Bool
 wellFormed d s = fills (length s) (size d s)
+
+unfoldable pub frameWith : List ℕ → Header → Frame
+frameWith s NoHeader = NoFrame
+frameWith s (At id a e) = cond (eqb e (length s)) (Of id a e) NoFrame
+frameWith s (Open id a) = cond (leb (a + 2) (length s) && closes (drop (length s - 2) s)) (Of id a (length s - 2)) NoFrame
+
+-- the first octet of s and where its contents stand, if s starts and ends as one element does: its contents go up to its end, or up to its closing octets
+unfoldable pub frameOf : List ℕ → Frame
+frameOf s = frameWith s (headerOf s)
 
 -- an outgoing element: identifier, shortest length, contents
 unfoldable pub elementOctets : ℕ → List ℕ → List ℕ
