@@ -3,13 +3,17 @@ use Prim.Native.Nat.{ℕ, zero, suc, _-_, _<_, _≤_}
 use mathlib.Core.Path.{_≡_, refl, ap, _∙_}
 use mathlib.Core.List.{List, [], _∷_}
 use native.Mathlib.Omega.{arith}
-use lib.ListN.{length, drop}
-use Rattle.ber.specs.declared.header.Header.{Header}
-use Rattle.ber.specs.declared.header.Header.the-variants.{At, NoHeader}
-use Rattle.ber.specs.Header.{headerOf}
+use mathlib.Core.Option.{Option, some, none}
+use lib.ListN.{length, take, drop}
+use lib.Seq.{length-take-le}
+use Rattle.ber.specs.declared.element.Frame.{Frame}
+use Rattle.ber.specs.declared.element.Frame.the-variants.{Of, NoFrame}
+use Rattle.ber.specs.Element.{size, frameOf}
 use Rattle.base.specs.Octets.{part}
-use Rattle.ber.proofs.HeaderLaws.{Bounds, header-bounds}
-use Rattle.apdu.specs.Field.{Part, partInside, partBehind, Field, fieldsWith, fieldsIn, fields}
+use Rattle.ber.proofs.HeaderLaws.{Bounds}
+use Rattle.ber.proofs.ElementLaws.{element-bounds}
+use Rattle.ber.proofs.FrameLaws.{frame-bounds}
+use Rattle.apdu.specs.Field.{Part, partInside, partBehind, Field, fieldsWith, fieldsBy, fieldsIn, fields}
 use Rattle.base.proofs.PartLaws.{part-part, part-rest, part-length}
 
 -- p is a part of the octets s
@@ -42,17 +46,24 @@ module _ (s : List ℕ) (p : Part) (w : Stands s p) where
         within = w .within;
       }
 
-  stand-with : (rest : Part → List Field) → ((e : ℕ) → e ≤ length (p .octets) → AllStand s (rest (partBehind p e))) → (h : Header) → headerOf (p .octets) ≡ h → AllStand s (fieldsWith rest p h)
+  stand-with : (rest : Part → List Field) (n : ℕ) → 0 < n → n ≤ length (p .octets) → AllStand s (rest (partBehind p n)) → (h : Frame) → frameOf (take n (p .octets)) ≡ h → AllStand s (fieldsWith rest p n h)
   unfolding fieldsWith
-  stand-with rest r NoHeader q = tt
-  stand-with rest r (At id a e) q =
-      let b : Bounds (p .octets) id a e = header-bounds (p .octets) id a e q in
-      (inside-stands a e (b .order) (omega arith) (omega arith), inside-stands 0 e (omega arith) (omega arith) (omega arith), r e (omega arith))
+  stand-with rest n o k r NoFrame q = tt
+  stand-with rest n o k r (Of id a e) q =
+      let b : Bounds (take n (p .octets)) id a e = frame-bounds (take n (p .octets)) id a e q in
+      let l : length (take n (p .octets)) ≡ n = length-take-le n (p .octets) k in
+      (inside-stands a e (b .order) (omega arith) (omega arith), inside-stands 0 n (omega arith) o k, r)
 
-stand-in : (s : List ℕ) (n : ℕ) (p : Part) → Stands s p → AllStand s (fieldsIn n p)
+  stand-by : (d : ℕ) (rest : Part → List Field) → ((n : ℕ) → n ≤ length (p .octets) → AllStand s (rest (partBehind p n))) → (r : Option ℕ) → size d (p .octets) ≡ r → AllStand s (fieldsBy rest p r)
+  unfolding fieldsBy
+  stand-by d rest r none q = tt
+  stand-by d rest r (some n) q =
+      let b = element-bounds d (p .octets) n q in stand-with rest n (omega arith) (b .1) (r n (b .1)) (frameOf (take n (p .octets))) refl
+
+stand-in : (s : List ℕ) (d n : ℕ) (p : Part) → Stands s p → AllStand s (fieldsIn d n p)
 unfolding fieldsIn
-stand-in s zero p w = tt
-stand-in s (suc n) p w = stand-with s p w (fieldsIn n) (λ e h. stand-in s n (partBehind p e) (behind-stands s p w e h)) (headerOf (p .octets)) refl
+stand-in s d zero p w = tt
+stand-in s d (suc n) p w = stand-by s p w d (fieldsIn d n) (λ e h. stand-in s d n (partBehind p e) (behind-stands s p w e h)) (size d (p .octets)) refl
 
-pub fields-stand : (s : List ℕ) (p : Part) → Stands s p → AllStand s (fields p)
-fields-stand s p w = stand-in s (length (p .octets)) p w
+pub fields-stand : (s : List ℕ) (d : ℕ) (p : Part) → Stands s p → AllStand s (fields d p)
+fields-stand s d p w = stand-in s d (length (p .octets)) p w

@@ -1,5 +1,5 @@
 -- The first octet decides the kind, of what is read and of what is written.
-use Prim.Native.Nat.{ℕ, _≤_, _<_}
+use Prim.Native.Nat.{ℕ, _-_, _≤_, _<_}
 use mathlib.Core.Path.{_≡_, refl, ap, subst}
 use mathlib.Core.Logic.{_⊎_, inl, inr}
 use mathlib.Core.Bool.{cond, _&&_}
@@ -12,11 +12,10 @@ use borrow.Author.Tests.{eqb-true, eqb-false, leb-true}
 use Rattle.base.proofs.Tests.{cond-elim, and-left, and-right}
 use Rattle.records.specs.declared.Code.{Code}
 use Rattle.records.specs.Limits.{levels}
-use Rattle.ber.specs.declared.header.Header.{Header}
-use Rattle.ber.specs.declared.header.Header.the-variants.{At, NoHeader}
-use Rattle.ber.specs.Header.{headerOf}
-use Rattle.ber.specs.Element.{wellFormed, elementOctets}
-use Rattle.ber.proofs.HeaderLaws.{header-bounds}
+use Rattle.ber.specs.declared.element.Frame.{Frame}
+use Rattle.ber.specs.declared.element.Frame.the-variants.{Of as FrameOf, NoFrame}
+use Rattle.ber.specs.Element.{wellFormed, frameOf, elementOctets}
+use Rattle.ber.proofs.FrameLaws.{frame-bounds}
 use Rattle.apdu.specs.declared.Number.{Number}
 use Rattle.apdu.specs.declared.Number.the-variants.{Of, Absent}
 use Rattle.apdu.specs.Field.{partOf, Field, fields}
@@ -52,8 +51,8 @@ says-result : (i : ℕ) (fs : List Field) → Says 0xA2 (resultBehind i fs)
 unfolding resultBehind
 says-result i [] = inr refl
 says-result i (f ∷ []) =
-    cond-elim (Says 0xA2) (eqb (f .identifier) 0x30) (resultWith i (codedOf (fields (f .contents)))) (mistyped (Of i))
-    (λ _. says-coded i Absent (codedOf (fields (f .contents))) .1) (λ _. inl refl)
+    cond-elim (Says 0xA2) (eqb (f .identifier) 0x30) (resultWith i (codedOf (fields (levels - 2) (f .contents)))) (mistyped (Of i))
+    (λ _. says-coded i Absent (codedOf (fields (levels - 2) (f .contents))) .1) (λ _. inl refl)
 says-result i (f ∷ g ∷ fs) = inl refl
 
 says-behind : (n : Number) (t : ℕ) (fs : List Field) → Says 0xA4 (rejectBehind n t fs)
@@ -94,14 +93,15 @@ says-kind t fs =
     (λ e. says-with t fs (leb-true 0xA1 t (and-left (leb 0xA1 t) (leb t 0xA3) e)) (leb-true t 0xA3 (and-right (leb 0xA1 t) (leb t 0xA3) e)))
     (λ _. cond-elim (Says t) (eqb t 0xA4) (rejectOf fs) unrecognized (λ e. says-as t 0xA4 (rejectOf fs) (eqb-true t 0xA4 e) (says-reject fs)) (λ _. inl refl))
 
-says-at : (x : List ℕ) (h : Header) → headerOf x ≡ h → Says (getD x 0 0) (parseAt x h)
+says-at : (x : List ℕ) (h : Frame) → frameOf x ≡ h → Says (getD x 0 0) (parseAt x h)
 unfolding parseAt
-says-at x NoHeader q = inl refl
-says-at x (At id a e) q = subst (λ (t : ℕ). Says t (byKind id (fields (partOf x a e)))) (header-bounds x id a e q .first) (says-kind id (fields (partOf x a e)))
+says-at x NoFrame q = inl refl
+says-at x (FrameOf id a e) q =
+    subst (λ (t : ℕ). Says t (byKind id (fields (levels - 1) (partOf x a e)))) (frame-bounds x id a e q .first) (says-kind id (fields (levels - 1) (partOf x a e)))
 
 says-first : (x : List ℕ) → Says (getD x 0 0) (parse x)
 unfolding parse
-says-first x = cond-elim (Says (getD x 0 0)) (wellFormed levels x) (parseAt x (headerOf x)) badlyStructured (λ _. says-at x (headerOf x) refl) (λ _. inl refl)
+says-first x = cond-elim (Says (getD x 0 0)) (wellFormed levels x) (parseAt x (frameOf x)) badlyStructured (λ _. says-at x (frameOf x) refl) (λ _. inl refl)
 
 -- what is read as one of the four kinds starts with the octet of that kind
 pub first-read : (x : List ℕ) (a : Apdu) → parse x ≡ a → 0 < kindOctet a → getD x 0 0 ≡ kindOctet a

@@ -9,9 +9,9 @@ use lib.ListN.{length, length-append}
 use lib.Dec.{eqb}
 use Rattle.records.specs.declared.Code.{Code}
 use Rattle.records.specs.Limits.{octets, levels}
-use Rattle.ber.specs.Header.{oneOf}
+use Rattle.ber.specs.Header.{oneOf, constructed}
 use Rattle.ber.specs.Rule.{contentRule}
-use Rattle.ber.specs.Element.{constructed, contentsOf, wellFormed, elementOctets}
+use Rattle.ber.specs.Element.{contentsOf, wellFormed, elementOctets}
 use Rattle.ber.proofs.ElementOctets.{oneOctet, startOf, element-octets-length}
 use Rattle.apdu.specs.declared.Number.{Number}
 use Rattle.apdu.specs.declared.Number.the-variants.{Of, Absent}
@@ -19,7 +19,7 @@ use Rattle.apdu.specs.declared.CodeField.the-variants.{Local}
 use Rattle.apdu.specs.Field.{Part, partOf, Field}
 use Rattle.apdu.specs.Parse.{CodedValue, invoke, result, error, numberUnder, codedOf, linked, unlinked, linkedWith, linkedOf, invokeWith, invokeBehind, resultWith, resultBehind, errorBehind, behindId, withId, byKind, parseAt, parse}
 use Rattle.apdu.specs.Encode.{integerField, linkedField, bodyField, codedFields, encodeInvoke, encodeResult, encodeError}
-use Rattle.apdu.proofs.FieldLaws.{concat, AllWell, contents-concat, partAt, fieldOf, fieldsOf, fields-concat, header-alone, part-alone, field-octets, octets-well-formed}
+use Rattle.apdu.proofs.FieldLaws.{concat, AllWell, contents-concat, partAt, fieldOf, fieldsOf, fields-concat, frame-alone, part-alone, field-octets, octets-well-formed}
 use Rattle.apdu.proofs.FieldRoundTrip.{NumberFits, ValueFits, valueList, value-well, value-concat, lastPart, place-behind, coded-back, integer-under, number-back, id-well, linked-well, id-back, id-under}
 
 -- an identifier of one octet under which all contents are right
@@ -35,7 +35,7 @@ parse-fields t es g k f h =
     let c = concat es in
     let n : length c < 2 ^ 32 = omega (arith, element-octets-length t (concat es)) in
     let i : cond (constructed t) (contentsOf 15 c) true ≡ true = ap (λ (b : Bool). cond b (contentsOf 15 c) true) k ∙ contents-concat 15 es f in
-    rw (octets-well-formed t c (g .one) n 15 (g .rule c) i, header-alone t c (g .one) n)
+    rw (octets-well-formed t c (g .one) n 15 (g .rule c) i, frame-alone t c (g .one) n)
     (ap (byKind t) (fields-concat 15 (partOf (elementOctets t c) (startOf c) (length (elementOctets t c))) es (part-alone t c (g .one) n) f))
 
 -- ---- A1 and A3

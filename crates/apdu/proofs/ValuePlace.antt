@@ -1,19 +1,18 @@
 -- A value that is read stands at its place in the lent octets, within them, so that a caller may take it from there.
-use Prim.Native.Nat.{ℕ}
+use Prim.Native.Nat.{ℕ, _-_}
 use mathlib.Core.Path.{_≡_, refl}
 use mathlib.Core.List.{List, [], _∷_}
 use mathlib.Core.Option.{Option, some, none}
 use mathlib.Core.Bool.{_&&_}
-use native.Mathlib.Omega.{arith}
 use lib.ListN.{length}
 use lib.Dec.{eqb, leb}
 use Rattle.base.proofs.Tests.{cond-elim}
 use Rattle.records.specs.Limits.{levels}
-use Rattle.ber.specs.declared.header.Header.{Header}
-use Rattle.ber.specs.declared.header.Header.the-variants.{At, NoHeader}
-use Rattle.ber.specs.Header.{headerOf}
-use Rattle.ber.specs.Element.{wellFormed}
-use Rattle.ber.proofs.HeaderLaws.{Bounds, header-bounds}
+use Rattle.ber.specs.declared.element.Frame.{Frame}
+use Rattle.ber.specs.declared.element.Frame.the-variants.{Of as FrameOf, NoFrame}
+use Rattle.ber.specs.Element.{wellFormed, frameOf}
+use Rattle.ber.proofs.HeaderLaws.{Bounds}
+use Rattle.ber.proofs.FrameLaws.{frame-bounds}
 use Rattle.apdu.specs.declared.Number.{Number}
 use Rattle.apdu.specs.declared.Number.the-variants.{Of, Absent}
 use Rattle.apdu.specs.declared.CodeField.{CodeField}
@@ -98,7 +97,7 @@ module _ (x : List ℕ) where
   unfolding resultBehind
   result-behind i [] w = tt
   result-behind i (f ∷ []) w =
-      cond-elim (ApduStands x) (eqb (f .identifier) 0x30) _ (mistyped (Of i)) (λ _. result-with i (codedOf (fields (f .contents))) (coded-of (fields (f .contents)) (fields-stand x (f .contents) (w .0)))) (λ _. tt)
+      cond-elim (ApduStands x) (eqb (f .identifier) 0x30) _ (mistyped (Of i)) (λ _. result-with i (codedOf (fields (levels - 2) (f .contents))) (coded-of (fields (levels - 2) (f .contents)) (fields-stand x (levels - 2) (f .contents) (w .0)))) (λ _. tt)
   result-behind i (f ∷ g ∷ fs) w = tt
 
   error-behind : (i : ℕ) (c : Coded) → CodedStands c → ApduStands x (errorBehind i c)
@@ -130,13 +129,13 @@ module _ (x : List ℕ) where
   by-kind t fs w =
       cond-elim (ApduStands x) (leb 0xA1 t && leb t 0xA3) _ _ (λ _. with-id t fs w) (λ _. cond-elim (ApduStands x) (eqb t 0xA4) _ unrecognized (λ _. reject-of fs) (λ _. tt))
 
-  parse-at : (h : Header) → headerOf x ≡ h → ApduStands x (parseAt x h)
+  parse-at : (h : Frame) → frameOf x ≡ h → ApduStands x (parseAt x h)
   unfolding parseAt
-  parse-at NoHeader q = tt
-  parse-at (At id a e) q =
-      let b : Bounds x id a e = header-bounds x id a e q in
-      by-kind id (fields (partOf x a e)) (fields-stand x (partOf x a e) (record { octets = refl; ordered = b .order; within = omega arith }))
+  parse-at NoFrame q = tt
+  parse-at (FrameOf id a e) q =
+      let b : Bounds x id a e = frame-bounds x id a e q in
+      by-kind id (fields (levels - 1) (partOf x a e)) (fields-stand x (levels - 1) (partOf x a e) (record { octets = refl; ordered = b .order; within = b .within }))
 
   pub parse-stands : ApduStands x (parse x)
   unfolding parse
-  parse-stands = cond-elim (ApduStands x) (wellFormed levels x) (parseAt x (headerOf x)) badlyStructured (λ _. parse-at (headerOf x) refl) (λ _. tt)
+  parse-stands = cond-elim (ApduStands x) (wellFormed levels x) (parseAt x (frameOf x)) badlyStructured (λ _. parse-at (frameOf x) refl) (λ _. tt)

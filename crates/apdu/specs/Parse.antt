@@ -1,18 +1,17 @@
 -- What a received APDU says: document 01, 'The four APDUs' and step 1 of 'Receiving'.
-use Prim.Native.Nat.{ℕ}
+use Prim.Native.Nat.{ℕ, _-_}
 use mathlib.Core.Bool.{Bool, true, cond, _&&_, _||_}
 use mathlib.Core.List.{List, [], _∷_}
 use mathlib.Core.Option.{Option, some, none}
 use lib.ListN.{length, getD}
 use lib.Dec.{eqb, leb}
 use Rattle.records.specs.Limits.{levels}
-use Rattle.ber.specs.declared.header.Header.{Header}
-use Rattle.ber.specs.declared.header.Header.the-variants.{At, NoHeader}
+use Rattle.ber.specs.declared.element.Frame.{Frame}
+use Rattle.ber.specs.declared.element.Frame.the-variants.{Of as FrameOf, NoFrame}
 use Rattle.ber.specs.declared.integer.Integer.{Integer}
 use Rattle.ber.specs.declared.integer.Integer.the-variants.{Of as IntegerOf, NoInteger}
-use Rattle.ber.specs.Header.{headerOf}
 use Rattle.ber.specs.Integer.{integerOf}
-use Rattle.ber.specs.Element.{wellFormed}
+use Rattle.ber.specs.Element.{wellFormed, frameOf}
 use Rattle.apdu.specs.declared.Number.{Number}
 use Rattle.apdu.specs.declared.Number.the-variants.{Of, Absent}
 use Rattle.apdu.specs.declared.CodeField.{CodeField}
@@ -122,7 +121,7 @@ resultWith i (coded c (some v)) = result i (some (record { code = c; value = v }
 
 unfoldable pub resultBehind : ℕ → List Field → Apdu
 resultBehind i [] = result i none
-resultBehind i (f ∷ []) = cond (eqb (f .identifier) 0x30) (resultWith i (codedOf (fields (f .contents)))) (mistyped (Of i))
+resultBehind i (f ∷ []) = cond (eqb (f .identifier) 0x30) (resultWith i (codedOf (fields (levels - 2) (f .contents)))) (mistyped (Of i))
 resultBehind i (f ∷ g ∷ fs) = mistyped (Of i)
 
 -- ---- A3 ReturnError, behind the id: code; at most one value
@@ -178,11 +177,11 @@ withId t (f ∷ fs) = behindId t (idOf f) fs
 unfoldable pub byKind : ℕ → List Field → Apdu
 byKind t fs = cond (leb 0xA1 t && leb t 0xA3) (withId t fs) (cond (eqb t 0xA4) (rejectOf fs) unrecognized)
 
--- the element of this header: its fields, by its first octet
-unfoldable pub parseAt : List ℕ → Header → Apdu
-parseAt x NoHeader = badlyStructured
-parseAt x (At id a e) = byKind id (fields (partOf x a e))
+-- the element in this frame: the fields among its contents, by its first octet
+unfoldable pub parseAt : List ℕ → Frame → Apdu
+parseAt x NoFrame = badlyStructured
+parseAt x (FrameOf id a e) = byKind id (fields (levels - 1) (partOf x a e))
 
 -- an APDU is one element filling the input
 unfoldable pub parse : List ℕ → Apdu
-parse x = cond (wellFormed levels x) (parseAt x (headerOf x)) badlyStructured
+parse x = cond (wellFormed levels x) (parseAt x (frameOf x)) badlyStructured

@@ -1,11 +1,16 @@
 -- The steps between: what private functions answer or ask for. No public function's promise cites them.
-use Prim.Native.Nat.{ℕ, _+_, _≤_}
+use Prim.Native.Nat.{ℕ, _+_, _-_, _≤_}
 use mathlib.Core.Path.{_≡_}
+use mathlib.Core.Bool.{Bool, true, false, cond}
 use mathlib.Core.List.{List}
+use Rattle.records.specs.Limits.{levels}
 use Rattle.ber.specs.declared.header.Header.{Header}
-use Rattle.ber.specs.declared.header.Header.the-variants.{At, NoHeader}
+use Rattle.ber.specs.declared.header.Header.the-variants.{At, Open, NoHeader}
+use Rattle.ber.specs.declared.element.Frame.{Frame}
+use Rattle.ber.specs.declared.element.Frame.the-variants.{Of as FrameOf, NoFrame}
 use Rattle.ber.specs.Header.{headerOf}
 use Rattle.ber.specs.Integer.{octetCount}
+use Rattle.ber.specs.Element.{contentsOf, frameOf}
 use Rattle.base.specs.Octets.{part}
 use Rattle.apdu.specs.declared.Number.{Number}
 use Rattle.apdu.specs.declared.Number.the-variants.{Of, Absent}
@@ -13,30 +18,87 @@ use Rattle.apdu.specs.declared.field.Coded.{Coded as CodedPlaces}
 use Rattle.apdu.specs.declared.field.Coded.the-variants.{Is, Wrong as NoCode}
 use Rattle.apdu.specs.declared.field.Linked.{Linked as LinkedPlaces}
 use Rattle.apdu.specs.declared.field.Linked.the-variants.{To, Wrong as NoLink}
-use Rattle.apdu.specs.Field.{partOf, fields}
-use Rattle.apdu.specs.Parse.{Coded, uncoded, coded, Linked, unlinked, linked}
-use Rattle.apdu.specs.Reading.{readOwnLink, readValue}
+use Rattle.apdu.specs.declared.field.Field.{Field as FieldPlaces}
+use Rattle.apdu.specs.declared.field.Field.the-variants.{At as FieldAt, Other}
+use Rattle.apdu.specs.declared.Parsed.{Parsed}
+use Rattle.apdu.specs.Field.{Part, partOf, Field, fields}
+use Rattle.apdu.specs.Parse.{Apdu, badlyStructured, unrecognized, mistyped, invoke, result, error, reject, Coded, uncoded, coded, codedOf, linkedOf, numberUnder, invokeWith, invokeBehind}
+use Rattle.apdu.specs.Reading.{readOwnLink, readValue, readParsed}
 
 -- ---- what is read
 
--- a header from the place at on, with places in all of the octets
-unfoldable pub moved : ℕ → Header → Header
-moved at NoHeader = NoHeader
-moved at (At id a e) = At id (at + a) (at + e)
+-- a field of a definite length, its places moved into all of the octets
+unfoldable pub movedField : ℕ → Header → FieldPlaces
+movedField at NoHeader = Other
+movedField at (Open id a) = Other
+movedField at (At id a e) = FieldAt id (at + a) (at + e)
 
--- the field at the start of the octets from at up to end, framed as in `fields`
-unfoldable pub fieldAt : List ℕ → ℕ → ℕ → Header
-fieldAt s at end = moved at (headerOf (part s at end))
+-- the field at the start of the octets from at up to end
+unfoldable pub fieldAt : List ℕ → ℕ → ℕ → FieldPlaces
+fieldAt s at end = movedField at (headerOf (part s at end))
+
+unfoldable pub movedFrame : ℕ → Frame → Frame
+movedFrame at NoFrame = NoFrame
+movedFrame at (FrameOf id a e) = FrameOf id (at + a) (at + e)
+
+-- the octets from at up to end in the frame of one element
+unfoldable pub frameAt : List ℕ → ℕ → ℕ → Frame
+frameAt s at end = movedFrame at (frameOf (part s at end))
+
+-- what the fields in p say, where p is elements with d levels left; else w
+abbrev pub guarded : {B : Type 0} → ℕ → B → (List Field → B) → Part → B
+guarded d w F p = cond (contentsOf d (p .octets)) (F (fields d p)) w
 
 -- a code and at most one value, or not
 unfoldable pub readCoded : List ℕ → CodedPlaces → Coded
 readCoded s (Is c v) = coded c (readValue s v)
 readCoded s NoCode = uncoded
 
--- an optional linked id, or not; what follows it goes up to end
-unfoldable pub readLinked : List ℕ → ℕ → LinkedPlaces → Linked
-readLinked s end (To l next) = linked (readOwnLink l) (fields (partOf s next end))
-readLinked s end NoLink = unlinked
+unfoldable pub isNumber : Number → Bool
+isNumber (Of w) = true
+isNumber Absent = false
+
+-- a code and at most one value in p
+abbrev pub codedIn : ℕ → Part → Coded
+codedIn d p = guarded d uncoded codedOf p
+
+-- an Invoke behind its id, in p
+abbrev pub invokeIn : ℕ → Part → Apdu
+invokeIn i p = guarded (levels - 1) (mistyped (Of i)) (λ fs. invokeBehind i (linkedOf fs)) p
+
+-- the same with the linked id read, what follows it going up to end
+unfoldable pub behindLinked : ℕ → List ℕ → ℕ → LinkedPlaces → Apdu
+behindLinked i s end (To l next) = invokeWith i (readOwnLink l) (codedIn (levels - 1) (partOf s next end))
+behindLinked i s end NoLink = mistyped (Of i)
+
+-- the same with the number n in the place of the linked id, and p behind it
+unfoldable pub behindNumber : ℕ → Number → Part → Apdu
+behindNumber i Absent p = mistyped (Of i)
+behindNumber i (Of l) p = invokeWith i (Of l) (codedIn (levels - 1) p)
+
+-- what stands in the place of an id
+unfoldable pub idIn : List ℕ → FieldPlaces → Number
+idIn s Other = Absent
+idIn s (FieldAt id a n) = numberUnder 0x02 id (part s a n)
+
+-- fields are wrong, or the first octet is: whether the octets are well formed decides what it is
+unfoldable pub unsettled : Apdu → Bool
+unsettled badlyStructured = false
+unsettled unrecognized = true
+unsettled (mistyped i) = true
+unsettled (invoke i l c v) = false
+unsettled (result i b) = false
+unsettled (error i c v) = false
+unsettled (reject i k p) = false
+
+unfoldable pub settle : Bool → Apdu → Apdu
+settle true a = a
+settle false a = cond (unsettled a) badlyStructured a
+
+-- r reads as a where the octets are well formed, and is unsettled elsewhere
+pub record Reading (s : List ℕ) (well : Bool) (r : Parsed) (a : Apdu) : Type 0 where
+  pub right : well ≡ true → readParsed s r ≡ a
+  pub wrong : well ≡ false → unsettled (readParsed s r) ≡ true
 
 -- a problem of this kind is right with an id, or with none
 pub record RejectRight (n : Number) (kind : ℕ) : Type 0 where

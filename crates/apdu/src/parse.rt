@@ -5,6 +5,7 @@ use crate::Parsed;
 use crate::Span;
 use crate::Value;
 use crate::field::Coded;
+use crate::field::Field;
 use crate::field::Linked;
 use crate::field::code_and_value;
 use crate::field::field_at;
@@ -12,28 +13,31 @@ use crate::field::linked_id;
 use crate::field::number_under;
 use crate::reject::reject;
 use base::octets::between;
-use ber::element::is_element;
-use ber::header::Header;
-use ber::header::header_of;
+use ber::element::Frame;
+use ber::element::frame_of;
+use ber::element::well_formed;
 use records::OwnId;
 use records::PeerId;
 use records::State;
 ghost use mathlib.Core.Path.{_≡_};
 ghost use mathlib.Core.List.{List};
-ghost use Prim.Native.Nat.{ℕ};
+ghost use Prim.Native.Nat.{ℕ, _-_};
 ghost use Rattle.base.specs.Octets.{part};
+ghost use Rattle.records.specs.Limits.{levels};
+ghost use Rattle.ber.specs.Element.{insideOf, makesElement, wellFormed};
+ghost use Rattle.apdu.specs.declared.Number.the-variants.{Of};
 ghost use Rattle.apdu.specs.Field.{partOf, fields};
-ghost use Rattle.apdu.specs.Parse.{bodyValue, codedOf, linkedOf, invokeBehind, resultWith, resultBehind, errorBehind, behindId, withId, byKind, parse};
+ghost use Rattle.apdu.specs.Parse.{bodyValue, mistyped, resultWith, resultBehind, errorBehind, behindId, withId, byKind, parse};
 ghost use Rattle.apdu.specs.Reading.{readValue, readBody, readParsed};
-ghost use Rattle.apdu.specs.Steps.{readCoded};
+ghost use Rattle.apdu.specs.Steps.{fieldAt, frameAt, guarded, readCoded, codedIn, invokeIn, idIn, Reading, settle};
 
 // A1, behind the id.
 fn invoke(s: &[u8], id: PeerId, at: usize, end: usize) -> Parsed
-    ensures { λ r. ⌜ readParsed (now (s .entry)) r ≡ invokeBehind (id .0) (linkedOf (fields (partOf (now (s .entry)) at end))) ⌝ }
+    ensures { λ r. ⌜ readParsed (now (s .entry)) r ≡ invokeIn (id .0) (partOf (now (s .entry)) at end) ⌝ }
 {
     match linked_id(s, at, end) {
         Linked::Wrong => Parsed::Mistyped(Number::Of(id.0)),
-        Linked::To { linked, next } => match code_and_value(s, next, end) {
+        Linked::To { linked, next } => match code_and_value(s, next, end, State::LEVELS - 1) {
             Coded::Wrong => Parsed::Mistyped(Number::Of(id.0)),
             Coded::Is { code, value } => Parsed::Invoke {
                 id,
@@ -61,40 +65,50 @@ fn result_with(id: OwnId, c: Coded) -> Parsed
     }
 }
 
-// A2, behind the id.
-fn result(s: &[u8], id: OwnId, at: usize, end: usize) -> Parsed
-    ensures { λ r. ⌜ readParsed (now (s .entry)) r ≡ resultBehind (id .0) (fields (partOf (now (s .entry)) at end)) ⌝ }
+// The element that is to fill the octets between two places: where its contents stand in all of the lent octets.
+fn frame_at(s: &[u8], at: usize, end: usize) -> Frame
+    ensures { λ r. ⌜ r ≡ frameAt (now (s .entry)) at end ⌝ }
 {
-    match field_at(s, at, end) {
-        Header::NoHeader => Parsed::Result {
+    match frame_of(between(s, at, end)) {
+        Frame::NoFrame => Frame::NoFrame,
+        Frame::Of { id, start, stop } => Frame::Of {
+            id,
+            start: at + start,
+            stop: at + stop,
+        },
+    }
+}
+
+// A2, behind the id: nothing, or 30 alone.
+fn result(s: &[u8], id: OwnId, at: usize, end: usize) -> Parsed
+    ensures { λ r. ⌜ readParsed (now (s .entry)) r ≡ guarded (levels - 1) (mistyped (Of (id .0))) (resultBehind (id .0)) (partOf (now (s .entry)) at end) ⌝ }
+{
+    if between(s, at, end).len() == 0 {
+        return Parsed::Result {
             id,
             body: Body::Absent,
-        },
-        Header::At {
+        };
+    }
+    match frame_at(s, at, end) {
+        Frame::NoFrame => Parsed::Mistyped(Number::Of(id.0)),
+        Frame::Of {
             id: identifier,
             start,
-            end: next,
+            stop,
         } => {
             if identifier != 0x30 {
                 return Parsed::Mistyped(Number::Of(id.0));
             }
-            match field_at(s, next, end) {
-                Header::NoHeader => result_with(id, code_and_value(s, start, next)),
-                Header::At {
-                    id: _,
-                    start: _,
-                    end: _,
-                } => Parsed::Mistyped(Number::Of(id.0)),
-            }
+            result_with(id, code_and_value(s, start, stop, State::LEVELS - 2))
         }
     }
 }
 
 // A3, behind the id.
 fn error(s: &[u8], id: OwnId, at: usize, end: usize) -> Parsed
-    ensures { λ r. ⌜ readParsed (now (s .entry)) r ≡ errorBehind (id .0) (codedOf (fields (partOf (now (s .entry)) at end))) ⌝ }
+    ensures { λ r. ⌜ readParsed (now (s .entry)) r ≡ errorBehind (id .0) (codedIn (levels - 1) (partOf (now (s .entry)) at end)) ⌝ }
 {
-    match code_and_value(s, at, end) {
+    match code_and_value(s, at, end, State::LEVELS - 1) {
         Coded::Wrong => Parsed::Mistyped(Number::Of(id.0)),
         Coded::Is { code, value } => Parsed::Error { id, code, value },
     }
@@ -102,7 +116,7 @@ fn error(s: &[u8], id: OwnId, at: usize, end: usize) -> Parsed
 
 // A1 to A3, behind what should be their id.
 fn behind_id(s: &[u8], first: u8, n: Number, at: usize, end: usize) -> Parsed
-    ensures { λ r. ⌜ readParsed (now (s .entry)) r ≡ behindId first n (fields (partOf (now (s .entry)) at end)) ⌝ }
+    ensures { λ r. ⌜ readParsed (now (s .entry)) r ≡ guarded (levels - 1) (mistyped n) (behindId first n) (partOf (now (s .entry)) at end) ⌝ }
 {
     match n {
         Number::Absent => Parsed::Mistyped(Number::Absent),
@@ -119,14 +133,14 @@ fn behind_id(s: &[u8], first: u8, n: Number, at: usize, end: usize) -> Parsed
 }
 
 fn with_id(s: &[u8], first: u8, at: usize, end: usize) -> Parsed
-    ensures { λ r. ⌜ readParsed (now (s .entry)) r ≡ withId first (fields (partOf (now (s .entry)) at end)) ⌝ }
+    ensures { λ r. ⌜ readParsed (now (s .entry)) r ≡ guarded (levels - 1) (mistyped (idIn (now (s .entry)) (fieldAt (now (s .entry)) at end))) (withId first) (partOf (now (s .entry)) at end) ⌝ }
 {
     match field_at(s, at, end) {
-        Header::NoHeader => Parsed::Mistyped(Number::Absent),
-        Header::At {
+        Field::Other => Parsed::Mistyped(Number::Absent),
+        Field::At {
             id: identifier,
             start,
-            end: next,
+            next,
         } => {
             let n = number_under(0x02, identifier, between(s, start, next));
             behind_id(s, first, n, next, end)
@@ -135,7 +149,7 @@ fn with_id(s: &[u8], first: u8, at: usize, end: usize) -> Parsed
 }
 
 fn by_kind(s: &[u8], first: u8, at: usize, end: usize) -> Parsed
-    ensures { λ r. ⌜ readParsed (now (s .entry)) r ≡ byKind first (fields (partOf (now (s .entry)) at end)) ⌝ }
+    ensures { λ r. ⌜ Reading (now (s .entry)) (makesElement (insideOf (levels - 1)) first (part (now (s .entry)) at end)) r (byKind first (fields (levels - 1) (partOf (now (s .entry)) at end))) ⌝ }
 {
     if first < 0xA1 {
         return Parsed::Unrecognized;
@@ -149,21 +163,34 @@ fn by_kind(s: &[u8], first: u8, at: usize, end: usize) -> Parsed
     Parsed::Unrecognized
 }
 
-// What the lent octets say, with places in them. They are one element where its header fills them and its contents make one.
-pub fn parse(apdu: &[u8]) -> Parsed
-    ensures { λ r. ⌜ readParsed (now (apdu .entry)) r ≡ parse (now (apdu .entry)) ⌝ }
+// What was read, of octets that may not be well formed where fields are wrong: only then are they walked once more.
+fn settled(apdu: &[u8], r: Parsed) -> Parsed
+    ensures { λ x. ⌜ readParsed (now (apdu .entry)) x ≡ settle (wellFormed levels (now (apdu .entry))) (readParsed (now (apdu .entry)) r) ⌝ }
 {
-    match header_of(apdu) {
-        Header::NoHeader => Parsed::BadlyStructured,
-        Header::At { id, start, end } => {
-            if end != apdu.len() {
-                return Parsed::BadlyStructured;
-            }
-            if is_element(id, &apdu[start..end], State::LEVELS - 1) {
-                return by_kind(apdu, id, start, end);
+    match r {
+        Parsed::Mistyped(n) => {
+            if well_formed(apdu, State::LEVELS) {
+                return Parsed::Mistyped(n);
             }
             Parsed::BadlyStructured
         }
+        Parsed::Unrecognized => {
+            if well_formed(apdu, State::LEVELS) {
+                return Parsed::Unrecognized;
+            }
+            Parsed::BadlyStructured
+        }
+        _ => r,
+    }
+}
+
+// What the lent octets say, with places in them. The fields are checked as they are read, so that right octets are looked at once.
+pub fn parse(apdu: &[u8]) -> Parsed
+    ensures { λ r. ⌜ readParsed (now (apdu .entry)) r ≡ parse (now (apdu .entry)) ⌝ }
+{
+    match frame_of(apdu) {
+        Frame::NoFrame => Parsed::BadlyStructured,
+        Frame::Of { id, start, stop } => settled(apdu, by_kind(apdu, id, start, stop)),
     }
 }
 

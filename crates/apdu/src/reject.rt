@@ -1,19 +1,23 @@
 // A received Reject: document 01, 'The four APDUs'.
 use crate::Number;
 use crate::Parsed;
+use crate::field::Field;
 use crate::field::field_at;
+use crate::field::is_right_field;
 use crate::field::number_under;
 use base::octets::between;
-use ber::header::Header;
 use records::OwnId;
 use records::PeerId;
+use records::State;
 ghost use mathlib.Core.Path.{_≡_};
 ghost use mathlib.Core.List.{List};
-ghost use Prim.Native.Nat.{ℕ};
-ghost use Rattle.apdu.specs.Field.{partOf, fields};
-ghost use Rattle.apdu.specs.Parse.{mostProblem, isProblem, idAllowed, reject, rejectWith, rejectBehind, rejectOf};
+ghost use Prim.Native.Nat.{ℕ, _-_};
+ghost use Rattle.records.specs.Limits.{levels};
+ghost use Rattle.apdu.specs.declared.Number.the-variants.{Absent};
+ghost use Rattle.apdu.specs.Field.{partOf};
+ghost use Rattle.apdu.specs.Parse.{mistyped, mostProblem, isProblem, idAllowed, reject, rejectWith, rejectBehind, rejectOf};
 ghost use Rattle.apdu.specs.Reading.{readParsed};
-ghost use Rattle.apdu.specs.Steps.{RejectRight};
+ghost use Rattle.apdu.specs.Steps.{guarded, RejectRight};
 
 // The highest problem number of a kind, 80 to 83.
 fn most_problem(kind: u8) -> u8
@@ -107,39 +111,40 @@ fn reject_with(n: Number, identifier: u8, kind: u8, c: &[u8]) -> Parsed
     Parsed::Mistyped(Number::Absent)
 }
 
-// A4, behind the id or what stands in its place.
+// A4, behind the id or what stands in its place: one problem fills what is left.
 fn reject_behind(s: &[u8], n: Number, identifier: u8, at: usize, end: usize) -> Parsed
-    ensures { λ r. ⌜ readParsed (now (s .entry)) r ≡ rejectBehind n identifier (fields (partOf (now (s .entry)) at end)) ⌝ }
+    ensures { λ r. ⌜ readParsed (now (s .entry)) r ≡ guarded (levels - 1) (mistyped Absent) (rejectBehind n identifier) (partOf (now (s .entry)) at end) ⌝ }
 {
     match field_at(s, at, end) {
-        Header::NoHeader => Parsed::Mistyped(Number::Absent),
-        Header::At {
+        Field::Other => Parsed::Mistyped(Number::Absent),
+        Field::At {
             id: kind,
             start,
-            end: next,
-        } => match field_at(s, next, end) {
-            Header::NoHeader => reject_with(n, identifier, kind, between(s, start, next)),
-            Header::At {
-                id: _,
-                start: _,
-                end: _,
-            } => Parsed::Mistyped(Number::Absent),
-        },
+            next,
+        } => {
+            if between(s, next, end).len() != 0 {
+                return Parsed::Mistyped(Number::Absent);
+            }
+            reject_with(n, identifier, kind, between(s, start, next))
+        }
     }
 }
 
 pub(crate) fn reject(s: &[u8], at: usize, end: usize) -> Parsed
-    ensures { λ r. ⌜ readParsed (now (s .entry)) r ≡ rejectOf (fields (partOf (now (s .entry)) at end)) ⌝ }
+    ensures { λ r. ⌜ readParsed (now (s .entry)) r ≡ guarded (levels - 1) (mistyped Absent) rejectOf (partOf (now (s .entry)) at end) ⌝ }
 {
     match field_at(s, at, end) {
-        Header::NoHeader => Parsed::Mistyped(Number::Absent),
-        Header::At {
+        Field::Other => Parsed::Mistyped(Number::Absent),
+        Field::At {
             id: identifier,
             start,
-            end: next,
+            next,
         } => {
             let n = number_under(0x02, identifier, between(s, start, next));
-            reject_behind(s, n, identifier, next, end)
+            if is_right_field(n, between(s, at, next), State::LEVELS - 1) {
+                return reject_behind(s, n, identifier, next, end);
+            }
+            Parsed::Mistyped(Number::Absent)
         }
     }
 }

@@ -25,6 +25,7 @@ use Rattle.ber.specs.declared.element.Frame.the-variants.{Of, NoFrame}
 use Rattle.ber.specs.Header.{constructed, headerOf}
 use Rattle.ber.specs.Element.{closes, behind, closedBehind, makesElement, elementWith, elementOf, insideOf, contentsOf, sizeIn, size, fills, wellFormed, frameWith, frameOf}
 use Rattle.ber.proofs.HeaderLaws.{Bounds, header-bounds, OpenBounds, open-bounds}
+use Rattle.ber.proofs.HeaderFacts.{header-prefix}
 use Rattle.ber.proofs.ElementLaws.{good-size, fault-size, Reaches, inside-reaches, element-bounds, inside-cons, inside-closed, contents-none, contents-cons, First, contents-first, Later, closed-first, well-formed-size, size-well-formed}
 use Rattle.ber.proofs.ElementFacts.{Indefinite, element-facts, indefinite-made}
 use Rattle.ber.proofs.ElementAnswers.{constructed-rule}
@@ -203,3 +204,26 @@ frame-bounds s id a e q = go (headerOf s) refl q
         let k : length s - 2 ≡ e = cc in
         record { first = sym i ∙ b .first; start = omega arith; order = omega arith; within = omega arith })
         (λ _ x. let z : _≡_ {A = ℕ} 0 1 = cc in absurd (omega arith))
+
+-- ---- the frame of an element
+
+pub record Framed (s : List ℕ) : Type 0 where
+  pub id : ℕ
+  pub a : ℕ
+  pub e : ℕ
+  pub frame : frameOf s ≡ Of id a e
+
+pub well-formed-frame : (d : ℕ) (s : List ℕ) → wellFormed d s ≡ true → Framed s
+well-formed-frame zero s q = ⊎-elim (λ f. absurd (omega (arith, f .level))) (λ f. absurd (omega (arith, f .level))) (element-facts zero s (length s) (well-formed-size zero s q))
+well-formed-frame (suc d) s q = go (frameOf s) refl (sym (well-formed-framed d s) ∙ q)
+  where
+    go : (f : Frame) → frameOf s ≡ f → framed d s f ≡ true → Framed s
+    go NoFrame w x = absurd (false≢true x)
+    go (Of id a e) w x = record { id = id; a = a; e = e; frame = w }
+
+-- of a definite length: its header says it
+pub frame-definite : (s : List ℕ) (id a e : ℕ) → headerOf s ≡ At id a e → frameOf (take e s) ≡ Of id a e
+frame-definite s id a e w =
+    let l : length (take e s) ≡ e = length-take-le e s (header-bounds s id a e w .within) in
+    sym (frame-filled (take e s) id a e
+    (ap headerOf (sym (append-nil (take e s))) ∙ header-prefix (take e s) (drop e s) [] id a e (ap headerOf (take-append-drop e s) ∙ w) (omega arith)) (sym l))
