@@ -1,8 +1,9 @@
 //! The four APDUs: reading their fields from received octets, measuring and writing outgoing ones.
-//! Follows document 01, "The four APDUs" and step 1 of "Receiving".
+//! Follows document 01, "The four APDUs" and step 1 of "Receiving", with document 02, request Three.
 
 use crate::answer::Problem;
-use crate::octets::{self, element_octets, integer_octets, Element, Writer};
+use crate::fields::Fields;
+use crate::octets::{self, element_octets, integer_octets, Writer};
 use crate::state::State;
 
 pub const INVOKE: u8 = 0xA1;
@@ -23,6 +24,17 @@ pub enum Apdu<'a> {
     Result { id: i32, returned: Option<(Code, &'a [u8])> },
     Error { id: i32, code: Code, value: Option<&'a [u8]> },
     Reject { id: Option<i32>, problem: Problem },
+}
+
+impl<'a> Apdu<'a> {
+    /// The value, if there is one.
+    pub fn value(&self) -> Option<&'a [u8]> {
+        match *self {
+            Apdu::Invoke(Invoke { value, .. }) | Apdu::Error { value, .. } => value,
+            Apdu::Result { returned, .. } => returned.map(|(_, value)| value),
+            Apdu::Reject { .. } => None,
+        }
+    }
 }
 
 #[derive(Clone, Copy, PartialEq, Eq)]
@@ -59,105 +71,64 @@ pub struct Unreadable {
 /// Reads an APDU: well-formed first, then its kind, then its fields.
 pub fn read(octets: &[u8]) -> Result<Apdu<'_>, Unreadable> {
     let unreadable = |problem| Unreadable { problem, id: None };
-    if octets::levels(octets, State::LEVELS).is_none() {
-        return Err(unreadable(Problem::BADLY_STRUCTURED_APDU));
-    }
-    let kind = octets[0];
+    let malformed = unreadable(Problem::BADLY_STRUCTURED_APDU);
+    let kind = *octets.first().ok_or(malformed)?;
     if !(INVOKE..=REJECT).contains(&kind) {
+        octets::levels(octets, State::LEVELS).ok_or(malformed)?;
         return Err(unreadable(Problem::UNRECOGNIZED_APDU));
     }
-    let mut fields = Fields { rest: octets::split(octets).map_or(&[], |(apdu, _)| apdu.contents) };
-    let mistyped = unreadable(Problem::MISTYPED_APDU);
-    if kind == REJECT {
-        return fields.reject().ok_or(mistyped);
-    }
-    let id = fields.id().ok_or(mistyped)?;
-    let read = match kind {
-        INVOKE => fields.invoke(id),
-        RESULT => fields.result(id),
-        _ => fields.error(id),
+    let mut fields = Fields::of(octets, State::LEVELS - 1).ok_or(malformed)?;
+    let id = if kind == REJECT { None } else { fields.id() };
+    let read = match (kind, id) {
+        (INVOKE, Some(id)) => read_invoke(&mut fields, id),
+        (RESULT, Some(id)) => read_result(&mut fields, id),
+        (ERROR, Some(id)) => read_error(&mut fields, id),
+        (REJECT, _) => read_reject(&mut fields),
+        _ => None,
     };
-    read.ok_or(Unreadable { id: Some(id), ..mistyped })
+    match fields.close() {
+        Some([]) => read.ok_or(Unreadable { id, problem: Problem::MISTYPED_APDU }),
+        _ => Err(malformed),
+    }
 }
 
-/// The fields of an APDU that are still to be read.
-struct Fields<'a> {
-    rest: &'a [u8],
+fn read_invoke<'a>(fields: &mut Fields<'a>, id: i32) -> Option<Apdu<'a>> {
+    let mut linked = None;
+    if let Some(field) = fields.take_if(LINKED) {
+        linked = Some(octets::integer(field.contents())?);
+    } else if let Some(field) = fields.take_if(NO_LINKED) {
+        field.contents().is_empty().then_some(())?;
+    }
+    let code = fields.code()?;
+    let value = fields.last_value()?;
+    Some(Apdu::Invoke(Invoke { id, linked, code, value }))
 }
 
-impl<'a> Fields<'a> {
-    fn next(&mut self) -> Option<Element<'a>> {
-        let (element, rest) = octets::split(self.rest)?;
-        self.rest = rest;
-        Some(element)
+fn read_result<'a>(fields: &mut Fields<'a>, id: i32) -> Option<Apdu<'a>> {
+    let mut returned = None;
+    if !fields.are_taken() {
+        returned = Some(fields.take_within(SEQUENCE, |inner| Some((inner.code()?, inner.last_value()??)))?);
     }
+    fields.are_taken().then_some(Apdu::Result { id, returned })
+}
 
-    /// The next element, if it has this identifier.
-    fn next_if(&mut self, identifier: u8) -> Option<Element<'a>> {
-        (self.rest.first() == Some(&identifier)).then(|| self.next())?
-    }
+fn read_error<'a>(fields: &mut Fields<'a>, id: i32) -> Option<Apdu<'a>> {
+    let code = fields.code()?;
+    let value = fields.last_value()?;
+    Some(Apdu::Error { id, code, value })
+}
 
-    fn id(&mut self) -> Option<i32> {
-        octets::integer(self.next_if(ID)?.contents)
-    }
-
-    fn code(&mut self) -> Option<Code> {
-        let element = self.next()?;
-        match element.identifier() {
-            0x02 => Some(octets::integer(element.contents).map_or(Code::Foreign, Code::Local)),
-            0x06 => Some(Code::Foreign),
-            _ => None,
-        }
-    }
-
-    /// At most one value, and nothing behind it.
-    fn last_value(&mut self) -> Option<Option<&'a [u8]>> {
-        let value = self.next().map(|element| element.whole);
-        self.rest.is_empty().then_some(value)
-    }
-
-    fn invoke(&mut self, id: i32) -> Option<Apdu<'a>> {
-        let mut linked = None;
-        if let Some(element) = self.next_if(LINKED) {
-            linked = Some(octets::integer(element.contents)?);
-        } else if let Some(element) = self.next_if(NO_LINKED) {
-            element.contents.is_empty().then_some(())?;
-        }
-        let code = self.code()?;
-        let value = self.last_value()?;
-        Some(Apdu::Invoke(Invoke { id, linked, code, value }))
-    }
-
-    fn result(&mut self, id: i32) -> Option<Apdu<'a>> {
-        if self.rest.is_empty() {
-            return Some(Apdu::Result { id, returned: None });
-        }
-        let sequence = self.next_if(SEQUENCE)?;
-        self.rest.is_empty().then_some(())?;
-        let mut inner = Fields { rest: sequence.contents };
-        let code = inner.code()?;
-        let value = inner.last_value()??;
-        Some(Apdu::Result { id, returned: Some((code, value)) })
-    }
-
-    fn error(&mut self, id: i32) -> Option<Apdu<'a>> {
-        let code = self.code()?;
-        let value = self.last_value()?;
-        Some(Apdu::Error { id, code, value })
-    }
-
-    /// An id or 05 00, then one problem; 05 00 stands only with a general problem.
-    fn reject(&mut self) -> Option<Apdu<'a>> {
-        let id = match self.next_if(NO_ID) {
-            Some(_) => None,
-            None => Some(self.id()?),
-        };
-        let element = self.next()?;
-        let &[number] = element.contents else { return None };
-        let problem = Problem::new(element.identifier(), number)?;
-        let right = self.rest.is_empty() && (id.is_some() || matches!(problem, Problem::General(_)));
-        right.then_some(Apdu::Reject { id, problem })
-    }
+/// An id or 05 00, then one problem; 05 00 stands only with a general problem.
+fn read_reject<'a>(fields: &mut Fields<'a>) -> Option<Apdu<'a>> {
+    let id = match fields.take_if(NO_ID) {
+        Some(_) => None,
+        None => Some(fields.id()?),
+    };
+    let field = fields.take()?;
+    let &[number] = field.contents() else { return None };
+    let problem = Problem::new(field.identifier(), number)?;
+    let right = fields.are_taken() && (id.is_some() || matches!(problem, Problem::General(_)));
+    right.then_some(Apdu::Reject { id, problem })
 }
 
 /// An APDU to write; no value is an empty slice.

@@ -21,6 +21,10 @@ impl Generator<'_> {
             self.label = self.label.or(Some((Group::Damaged, "octets changed, dropped or added")));
             values::damage(&mut self.random, &mut apdu);
         }
+        if self.fault() && self.random.percent(20) {
+            self.label = self.label.or(Some((Group::Damaged, "00 00 dropped, repeated, changed or added")));
+            values::damage_closing(&mut self.random, &mut apdu);
+        }
         if self.fault() && self.random.percent(4) {
             apdu.resize(4094 + self.random.below(6), 0);
         }
@@ -128,19 +132,17 @@ impl Generator<'_> {
         if self.fault() && self.random.percent(35) {
             self.spoil(&mut fields);
         }
-        let contents = fields.concat();
-        let form = values::form(&mut self.random, contents.len());
         let identifier = match self.fault() && self.random.percent(10) {
             true => [0xA0, 0xA1, 0xA2, 0xA3, 0xA4, 0xA5, 0x30, 0x31, 0xB1][self.random.below(9)],
             false => identifier,
         };
-        element_in_form(identifier, &contents, form)
+        values::drawn(&mut self.random, identifier, &fields.concat())
     }
 
     fn spoil(&mut self, fields: &mut Vec<Vec<u8>>) {
         let at = self.random.below(fields.len().max(1));
         let other = self.random.below(fields.len().max(1));
-        let kind = [0x02, 0x04, 0x05, 0x06, 0x30, 0x80, 0x81, 0x82][self.random.below(8)];
+        let kind = [0x02, 0x04, 0x05, 0x06, 0x30, 0x80, 0x81, 0x82, 0xA0, 0xA1][self.random.below(10)];
         let extra = values::value(&mut self.random, kind);
         match self.random.below(6) {
             0 => fields.push(extra),

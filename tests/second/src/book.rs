@@ -6,6 +6,7 @@ use std::collections::{HashMap, HashSet};
 use crate::answer::{Answer, Indication, Problem, Refusal};
 use crate::apdu::{self, Apdu, Code};
 use crate::frame::{self, Frame};
+use crate::octets;
 use crate::show;
 use crate::table::Table;
 
@@ -25,7 +26,7 @@ struct Given {
 }
 
 /// What must occur often enough in a long run.
-pub const ROWS: [&str; 11] = [
+pub const ROWS: [&str; 14] = [
     "results",
     "absent results",
     "errors",
@@ -37,6 +38,9 @@ pub const ROWS: [&str; 11] = [
     "forgets",
     "class 5 invokes",
     "linked invokes",
+    "results given with an indefinite value",
+    "errors given with an indefinite value",
+    "invokes heard with an indefinite value",
 ];
 
 /// The book of one association, and how often each row occurred.
@@ -184,8 +188,15 @@ impl Book {
                 if let Code::Local(code) = invoke.code {
                     self.heard.insert(invoke.id, code);
                 }
+                let indefinite = invoke.value.is_some_and(octets::is_indefinite);
+                self.count_if(indefinite, "invokes heard with an indefinite value");
             }
             (frame::RESULT | frame::ERROR, _) => {
+                let row = match frame.kind {
+                    frame::RESULT => "results given with an indefinite value",
+                    _ => "errors given with an indefinite value",
+                };
+                self.count_if(octets::is_indefinite(frame.payload), row);
                 let given = Given {
                     id: frame.id,
                     operation: self.heard.get(&frame.id).copied(),

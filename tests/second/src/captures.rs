@@ -86,7 +86,7 @@ fn end<'w>(seed: u64) -> Generator<'w> {
 /// A table with an operation that takes long arguments.
 fn large(random: &mut Random) -> Model {
     let mut model = faults::rich(random);
-    model.operations[1].argument = 0x04;
+    model.operations[1].argument = 0x30;
     model
 }
 

@@ -22,8 +22,7 @@ pub const MALFORMED: &[Named] = &[
     ("high tag of five more octets", &[0x9F, 0xFF, 0xFF, 0xFF, 0xFF, 0x7F, 0x00]),
     ("high tag without last octet", &[0x9F, 0xFF, 0xFF]),
     ("no length", &[0x04]),
-    ("length 80", &[0x30, 0x80, 0x00, 0x00]),
-    ("length 80 and nothing behind", &[0x04, 0x80]),
+    ("length 80 of a primitive, nothing behind", &[0x04, 0x80]),
     ("length of five octets", &[0x04, 0x85, 0x00, 0x00, 0x00, 0x00, 0x00]),
     ("length FF", &[0x04, 0xFF]),
     ("length cut short", &[0x04, 0x82, 0x00]),
@@ -45,6 +44,13 @@ pub const MALFORMED: &[Named] = &[
     ("06 with a later part starting with 80", &[0x06, 0x03, 0x01, 0x80, 0x01]),
 ];
 
+/// A 30 whose length octets are 81 80, with a 04 of 126 octets inside.
+const OF_128_OCTETS: [u8; 131] = {
+    let mut octets = [0x41; 131];
+    [octets[0], octets[1], octets[2], octets[3], octets[4]] = [0x30, 0x81, 0x80, 0x04, 0x7E];
+    octets
+};
+
 /// Unusual elements that are well-formed.
 pub const WELL_FORMED: &[Named] = &[
     ("identifier 20", &[0x20, 0x02, 0x04, 0x00]),
@@ -57,6 +63,7 @@ pub const WELL_FORMED: &[Named] = &[
     ("high tag with inner 80", &[0xDF, 0x81, 0x80, 0x80, 0x00, 0x00]),
     ("length of four octets", &[0x04, 0x84, 0x00, 0x00, 0x00, 0x01, 0x41]),
     ("length 81 00", &[0x30, 0x81, 0x00]),
+    ("length 81 80", &OF_128_OCTETS),
     ("01 with one octet", &[0x01, 0x01, 0x55]),
     ("02 of 00 80", &[0x02, 0x02, 0x00, 0x80]),
     ("02 of FF 7F", &[0x02, 0x02, 0xFF, 0x7F]),

@@ -5,7 +5,7 @@ use crate::days::{Logged, FORGET, RECEIVED, SENT};
 use crate::octets;
 use crate::random::Random;
 use crate::state::State;
-use crate::values::{self, element, element_in_form, integer_contents};
+use crate::values::{self, damage_closing, element, element_in_form, indefinite, integer_contents};
 
 /// Changes the entries of a day; false if the day has nothing to be changed so.
 type Change = fn(&mut Vec<Logged>, &mut Random) -> bool;
@@ -91,18 +91,17 @@ pub const CHANGES: &[(&str, Change)] = &[
         })
     }),
     ("a received entry in long form", |day, random| {
-        with(
-            day,
-            random,
-            |entry| entry.kind == RECEIVED,
-            |day, at, _| {
-                let octets = &mut day[at].octets;
-                if let Some((whole, [])) = octets::split(octets).filter(|(whole, _)| whole.identifier() & 0x1F != 0x1F)
-                {
-                    *octets = element_in_form(whole.identifier(), whole.contents, 4);
-                }
-            },
-        )
+        reframed(day, random, RECEIVED, |identifier, contents| element_in_form(identifier, contents, 4))
+    }),
+    ("a received entry of indefinite length", |day, random| reframed(day, random, RECEIVED, indefinite)),
+    ("a sent entry of indefinite length", |day, random| reframed(day, random, SENT, indefinite)),
+    ("closing octets of a received entry", |day, random| {
+        let closed = |entry: &Logged| entry.kind == RECEIVED && octets::is_indefinite(&entry.octets);
+        with(day, random, closed, |day, at, random| changed(&mut day[at], |octets| damage_closing(random, octets)))
+    }),
+    ("octets 00 00 of a sent entry", |day, random| {
+        let sent = |entry: &Logged| entry.kind == SENT;
+        with(day, random, sent, |day, at, random| changed(&mut day[at], |octets| damage_closing(random, octets)))
     }),
     ("a Reject nobody called for", |day, random| {
         with(
@@ -161,19 +160,39 @@ fn damaged(day: &mut Vec<Logged>, random: &mut Random, kind: u8) -> bool {
         random,
         |entry| entry.kind == kind,
         |day, at, random| {
-            let mut octets = day[at].octets.clone();
-            values::damage(random, &mut octets);
-            if (1..=State::OCTETS).contains(&octets.len()) {
-                day[at].octets = octets;
-            }
+            changed(&mut day[at], |octets| values::damage(random, octets));
         },
     )
 }
 
+/// Changes the octets of an entry, unless none or too many are left then.
+fn changed(entry: &mut Logged, change: impl FnOnce(&mut Vec<u8>)) {
+    let mut octets = entry.octets.clone();
+    change(&mut octets);
+    if (1..=State::OCTETS).contains(&octets.len()) {
+        entry.octets = octets;
+    }
+}
+
+/// Gives a constructed element that fills an entry another length form.
+fn reframed(day: &mut Vec<Logged>, random: &mut Random, kind: u8, frame: impl Fn(u8, &[u8]) -> Vec<u8>) -> bool {
+    let framed = |entry: &Logged| match octets::split(&entry.octets, State::LEVELS) {
+        Some((element, [])) => element.identifier() & 0x1F != 0x1F && octets::is_constructed(element.identifier()),
+        _ => false,
+    };
+    let fits = |entry: &Logged| entry.kind == kind && framed(entry);
+    with(day, random, fits, |day, at, _| {
+        changed(&mut day[at], |octets| {
+            let contents = octets::split(octets, State::LEVELS).map_or(&[][..], |(element, _)| element.contents());
+            *octets = frame(octets[0], contents);
+        });
+    })
+}
+
 /// Puts another element in the place of an APDU's first field.
 fn first_field(octets: &mut Vec<u8>, field: Vec<u8>) {
-    let contents = octets::split(octets).map_or(&[][..], |(apdu, _)| apdu.contents);
-    if let Some((_, rest)) = octets::split(contents) {
+    let contents = octets::split(octets, State::LEVELS).map_or(&[][..], |(apdu, _)| apdu.contents());
+    if let Some((_, rest)) = octets::split(contents, State::LEVELS) {
         let changed = element(octets[0], &[&field[..], rest].concat());
         if (apdu::INVOKE..=apdu::REJECT).contains(&octets[0]) && changed.len() <= State::OCTETS {
             *octets = changed;

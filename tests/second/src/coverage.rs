@@ -1,16 +1,17 @@
 //! Which rows of document 01 the generated scripts reach, and how often.
 
 use crate::answer::{Answer, Problem, Refusal, REFUSALS};
-use crate::cases;
 use crate::faults;
+use crate::forms;
 use crate::frame;
 use crate::generate::{self, Group, Label, Seen};
 use crate::looked_up;
 use crate::model::Model;
 use crate::observe::{accepted_kinds, expects, record_limits, rejected_id_is_live, sort, value_limits};
+use crate::oddities::{ARRIVALS, VALUES};
 use crate::rows::Rows;
 
-pub const SEEDS: u64 = 40;
+pub const SEEDS: u64 = 80;
 pub const CALLS: usize = 2000;
 const LEAST: u64 = 50;
 const LEAST_ACCEPTED_PERCENT: u64 = 30;
@@ -150,6 +151,7 @@ impl Default for Coverage {
             names.iter().for_each(|name| coverage.row(label_row((group, name))));
         }
         looked_up::rows().into_iter().for_each(|row| coverage.row(row));
+        forms::rows().into_iter().for_each(|row| coverage.row(row));
         for kind in ["an invoke", "an answer", "a reject", "a request", "a forget", "refusal 18", "another refusal"] {
             coverage.row(format!("follow-up: accepted after {kind}"));
         }
@@ -192,6 +194,7 @@ impl Coverage {
             self.count(format!("limit: {limit}"));
         }
         looked_up::rows_of(seen).into_iter().for_each(|row| self.count(row));
+        forms::rows_of(call, seen).into_iter().for_each(|row| self.count(row));
         if let Some(label) = seen.label.filter(|label| expects(label.0, seen)) {
             self.count(label_row(label));
         }
@@ -243,21 +246,14 @@ impl Coverage {
 }
 
 fn groups() -> Vec<(Group, Vec<&'static str>)> {
-    let names = |list: &[cases::Named]| list.iter().map(|(name, _)| *name).collect();
-    vec![
+    let mut groups = vec![
         (Group::InvalidTable, faults::TABLES.iter().map(|(name, _)| *name).collect()),
         (Group::UnsoundState, faults::STATES.iter().map(|(name, _)| *name).collect()),
-        (Group::MalformedReceived, names(cases::MALFORMED)),
-        (Group::MalformedValue, names(cases::MALFORMED)),
-        (Group::WellFormedReceived, names(cases::WELL_FORMED)),
-        (Group::WellFormedValue, names(cases::WELL_FORMED)),
-        (Group::MistypedWithId, names(cases::MISTYPED_WITH_ID)),
-        (Group::MistypedWithoutId, names(cases::MISTYPED_WITHOUT_ID)),
-        (Group::Unrecognized, names(cases::UNRECOGNIZED)),
-        (Group::UnacceptableReject, names(cases::UNACCEPTABLE_REJECTS)),
-        (Group::AcceptableReject, names(cases::ACCEPTABLE_REJECTS)),
-        (Group::Damaged, vec!["octets changed, dropped or added"]),
-    ]
+        (Group::Damaged, vec!["octets changed, dropped or added", "00 00 dropped, repeated, changed or added"]),
+    ];
+    let lists = ARRIVALS.iter().chain(VALUES);
+    groups.extend(lists.map(|(group, list)| (*group, list.iter().map(|(name, _)| *name).collect())));
+    groups
 }
 
 fn label_row((group, name): Label) -> String {

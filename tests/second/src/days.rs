@@ -7,7 +7,9 @@ use crate::capture::{HEADER, OCTETS, PLACE};
 use crate::cases;
 use crate::frame::{self, Frame};
 use crate::generate::{free_id, Generator};
+use crate::indefinite;
 use crate::model::OperationRow;
+use crate::octets;
 use crate::state::State;
 use crate::values;
 
@@ -150,12 +152,16 @@ impl Generator<'_> {
 
     /// Octets that no right end sends.
     fn wrong(&mut self) {
-        let list = match self.random.below(6) {
+        let list = match self.random.below(10) {
             0..=1 => cases::UNACCEPTABLE_REJECTS,
             2 => cases::MALFORMED,
             3 => cases::MISTYPED_WITH_ID,
             4 => cases::MISTYPED_WITHOUT_ID,
-            _ => cases::UNRECOGNIZED,
+            5 => cases::UNRECOGNIZED,
+            6 => indefinite::UNACCEPTABLE_REJECTS,
+            7 => indefinite::MALFORMED_APDUS,
+            8 => indefinite::MISTYPED_WITH_ID,
+            _ => indefinite::MISTYPED_WITHOUT_ID,
         };
         let octets = list[self.random.below(list.len())].1;
         self.arrive(octets);
@@ -168,7 +174,8 @@ impl Generator<'_> {
         let side = if received { &self.drive.state.peer } else { &self.drive.state.own };
         let (id, code) = (free_id(&mut self.random, side), row.code);
         let around = Outgoing::Invoke { id, linked: None, code, value: &[0; 4000] }.octets() - 4000;
-        let mut value = values::sized(octets - around);
+        let is_indefinite = octets::is_constructed(row.argument) && self.random.percent(50);
+        let mut value = values::sized(octets - around, is_indefinite);
         value[0] = row.argument;
         if !received {
             self.call(Frame { kind: frame::INVOKE, lent: u16::MAX, id, code, payload: &value, ..Frame::default() });

@@ -199,13 +199,17 @@ impl<'r> Association<'r> {
         self.random.pick(self.ends[end as usize].state().peer.live())
     }
 
-    /// A right value, or none where none is right; rarely one that breaks the rule.
+    /// A right value, or none where none is right; rarely one that breaks the rule, often one of indefinite length.
     fn value(&mut self, rule: Rule) -> Vec<u8> {
         let broken = self.random.percent(3);
         if broken != (rule.kind == 0 || rule.optional && self.random.percent(40)) {
             return Vec::new();
         }
-        values::value(self.random, if broken { 0x0C } else { rule.kind })
+        let kind = if broken { 0x0C } else { rule.kind };
+        match self.random.percent(65) {
+            true => values::indefinite_value(self.random, kind),
+            false => values::value(self.random, kind),
+        }
     }
 
     /// Room enough, mostly.

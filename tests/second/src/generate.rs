@@ -29,6 +29,7 @@ pub enum Group {
     InvalidTable,
     UnsoundState,
     MalformedReceived,
+    MalformedApdu,
     MalformedValue,
     WellFormedReceived,
     WellFormedValue,
@@ -102,12 +103,12 @@ impl<'w> Generator<'w> {
     fn run(mut self) -> Vec<u8> {
         while self.left > 0 {
             match self.random.below(100) {
-                0..=8 => self.invalid_table(),
-                9..=11 => self.unsound_state(),
-                12..=35 => self.limit(),
-                36..=66 => self.named_arrival(),
-                67..=84 => self.named_value(),
-                85..=88 => self.lookups(),
+                0..=6 => self.invalid_table(),
+                7..=9 => self.unsound_state(),
+                10..=32 => self.limit(),
+                33..=69 => self.named_arrival(),
+                70..=88 => self.named_value(),
+                89..=91 => self.lookups(),
                 _ => self.episode(),
             }
         }

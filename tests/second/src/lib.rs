@@ -1,11 +1,13 @@
-//! Remote operations of X.219, X.229 and X.880 as fixed in document 01: the engine of one end of an
-//! association (`engine`), a script player (`drive`), a script generator (`generate`) and checks that run on them.
+//! Remote operations of X.219, X.229 and X.880 as fixed in document 01 and, up to request Three, document 02: the engine
+//! of one end of an association (`engine`), a script player (`drive`), a script generator (`generate`) and checks that
+//! run on them.
 
 pub mod answer;
 pub mod apdu;
 pub mod capture;
 pub mod drive;
 pub mod engine;
+pub mod fields;
 pub mod frame;
 pub mod line;
 pub mod octets;
@@ -30,7 +32,9 @@ pub mod examples;
 pub mod extension;
 pub mod faults;
 pub mod first_fault;
+pub mod forms;
 pub mod generate;
+pub mod indefinite;
 mod limits;
 pub mod listing;
 pub mod looked_up;

@@ -6,7 +6,7 @@ use crate::generate::{fill, free_id, side, Generator};
 use crate::model::{ErrorRow, Model, OperationRow};
 use crate::random::Random;
 use crate::state::State;
-use crate::values::{self, element, integer_contents};
+use crate::values::{self, constructed, element, integer_contents};
 
 /// What a value at the limit lies in.
 #[derive(Clone, Copy, PartialEq, Eq)]
@@ -51,20 +51,36 @@ impl Generator<'_> {
         [Place::Invoke, Place::Result, Place::Error][self.random.below(3)]
     }
 
+    /// Whether an APDU and a Result's 30 are of indefinite length, both definite more often.
+    fn framing(&mut self) -> [bool; 2] {
+        [[false, false], [false, false], [false, true], [true, false], [true, true]][self.random.below(5)]
+    }
+
+    /// Which levels are of indefinite length: none, all, or some.
+    pub(crate) fn forms(&mut self) -> impl Fn(usize) -> bool {
+        let levels = match self.random.below(4) {
+            0 => 0,
+            1..=2 => u64::MAX,
+            _ => self.random.draw(),
+        };
+        move |level| levels >> level & 1 != 0
+    }
+
     /// Received octets and levels: one below, at and above the limit.
     fn received_value_limit(&mut self) {
         let (id, code, error) = self.set_plain(0x30);
         let place = self.place();
         let id = if place == Place::Invoke { free_id(&mut self.random, &self.drive.state.peer) } else { id };
-        let wrap = |value: &[u8]| wrapped(place, id, if place == Place::Error { error } else { code }, value);
+        let framing = self.framing();
+        let wrap = |value: &[u8]| wrapped(place, framing, id, if place == Place::Error { error } else { code }, value);
         let apdu = if self.random.percent(50) {
             let around = wrap(&vec![0; 4000]).len() - 4000;
             let octets = self.random.between(4095, 4097) - around;
-            wrap(&values::sized(octets))
+            wrap(&values::sized(octets, self.random.percent(50)))
         } else {
             let around = if place == Place::Result { 2 } else { 1 };
-            let levels = self.random.between(15, 17) - around;
-            wrap(&values::deep(0x30, levels, self.random.percent(50)))
+            let (levels, forms) = (self.random.between(15, 17) - around, self.forms());
+            wrap(&values::deep_in_forms(0x30, levels, self.random.percent(50), forms))
         };
         let lent = [10, 11, 11, 11, 11, 12][self.random.below(6)];
         self.call(Frame { kind: frame::RECEIVE, lent, payload: &apdu, ..Frame::default() });
@@ -75,7 +91,8 @@ impl Generator<'_> {
         let (id, code, error) = self.set_plain(type_of(value));
         let place = self.place();
         let id = if place == Place::Invoke { free_id(&mut self.random, &self.drive.state.peer) } else { id };
-        let payload = wrapped(place, id, if place == Place::Error { error } else { code }, value);
+        let framing = self.framing();
+        let payload = wrapped(place, framing, id, if place == Place::Error { error } else { code }, value);
         self.call(Frame { kind: frame::RECEIVE, lent: 11, payload: &payload, ..Frame::default() });
     }
 
@@ -96,11 +113,12 @@ impl Generator<'_> {
             self.set_state(&state);
         }
         let around_levels = if place == Place::Result { 2 } else { 1 };
+        let forms = self.forms();
         self.send(place, plain, |random, around| match random.below(20) {
-            0..=8 => values::sized(random.between(4095, 4097) - around),
-            9 => values::sized(random.between(4097, 6000)),
-            10..=17 => values::deep(0x30, random.between(15, 17) - around_levels, random.percent(50)),
-            _ => values::deep(0x30, random.between(16, 17), random.percent(50)),
+            0..=7 => values::sized(random.between(4095, 4097) - around, random.percent(50)),
+            8 => values::sized(random.between(4097, 6000), random.percent(50)),
+            9..=17 => values::deep_in_forms(0x30, random.between(15, 17) - around_levels, random.percent(40), forms),
+            _ => values::deep_in_forms(0x30, random.between(16, 17), random.percent(40), forms),
         });
     }
 
@@ -148,7 +166,7 @@ impl Generator<'_> {
                 let lent = if short { 3 } else { 40 };
                 self.call(Frame { kind: frame::INVOKE, lent, id, code, ..Frame::default() });
             } else {
-                let payload = wrapped(Place::Invoke, id, code, &[]);
+                let payload = wrapped(Place::Invoke, self.framing(), id, code, &[]);
                 self.call(Frame { kind: frame::RECEIVE, lent: 11, payload: &payload, ..Frame::default() });
             }
         }
@@ -188,13 +206,16 @@ impl Generator<'_> {
     }
 }
 
-/// An APDU with shortest lengths around a value, or none if it is empty.
-fn wrapped(place: Place, id: i32, code: i32, value: &[u8]) -> Vec<u8> {
+/// An APDU with shortest or indefinite lengths around a value, or none if it is empty.
+fn wrapped(place: Place, [outer, inner]: [bool; 2], id: i32, code: i32, value: &[u8]) -> Vec<u8> {
     let [id, code] = [id, code].map(|number| element(0x02, &integer_contents(number)));
     match place {
-        Place::Invoke => element(0xA1, &[&id, &code, value].concat()),
-        Place::Result => element(0xA2, &[id, element(0x30, &[&code, value].concat())].concat()),
-        Place::Error => element(0xA3, &[&id, &code, value].concat()),
+        Place::Invoke => constructed(0xA1, &[&id, &code, value].concat(), outer),
+        Place::Result => {
+            let returned = constructed(0x30, &[&code, value].concat(), inner);
+            constructed(0xA2, &[id, returned].concat(), outer)
+        }
+        Place::Error => constructed(0xA3, &[&id, &code, value].concat(), outer),
     }
 }
 

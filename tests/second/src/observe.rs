@@ -18,7 +18,7 @@ pub fn expects(group: Group, seen: &Seen<'_>) -> bool {
     match group {
         Group::InvalidTable => number == 1,
         Group::UnsoundState => number == 19,
-        Group::MalformedReceived => problem == Some(Problem::BADLY_STRUCTURED_APDU),
+        Group::MalformedReceived | Group::MalformedApdu => problem == Some(Problem::BADLY_STRUCTURED_APDU),
         Group::MalformedValue => number == 9,
         Group::WellFormedReceived => !matches!(number, 1 | 2 | 19) && problem != Some(Problem::BADLY_STRUCTURED_APDU),
         Group::WellFormedValue => matches!(number, 0 | 10),
@@ -52,7 +52,8 @@ pub fn sort(answer: &Answer<'_>) -> &'static str {
 
 /// Whether the id in the written Reject is an own record's.
 pub fn rejected_id_is_live(seen: &Seen<'_>) -> bool {
-    let id = octets::split(&seen.written[2..]).and_then(|(element, _)| octets::integer(element.contents));
+    let id =
+        octets::split(&seen.written[2..], State::LEVELS).and_then(|(element, _)| octets::integer(element.contents()));
     id.is_some_and(|id| seen.before.own.find(id).is_some())
 }
 
@@ -136,14 +137,27 @@ pub fn record_limits(seen: &Seen<'_>) -> Vec<&'static str> {
     limits
 }
 
+/// The answer in short: a Reject that was written by its problem.
+pub fn answered(answer: &Answer<'_>) -> String {
+    match answer {
+        Answer::Sent { .. } => "sent".to_string(),
+        Answer::Refused(Refusal::Rejected { problem, .. }) => {
+            let (kind, number) = problem.octets();
+            format!("{kind:02x} {number:02x}")
+        }
+        Answer::Refused(refusal) => format!("refused {}", refusal.number()),
+        _ => "accepted".to_string(),
+    }
+}
+
 /// Limits of octets, levels and lent output.
 pub fn value_limits(call: &str, seen: &Seen<'_>) -> Vec<String> {
     let mut limits = Vec::new();
     let answer = match seen.answer {
-        Answer::Sent { .. } => "sent".to_string(),
-        Answer::Refused(Refusal::Rejected { problem: Problem::BADLY_STRUCTURED_APDU, .. }) => "80 02".to_string(),
-        Answer::Refused(refusal) => format!("refused {}", refusal.number()),
-        _ => "accepted".to_string(),
+        Answer::Refused(refusal @ Refusal::Rejected { problem, .. }) if *problem != Problem::BADLY_STRUCTURED_APDU => {
+            format!("refused {}", refusal.number())
+        }
+        answer => answered(answer),
     };
     let (value, lent) = (seen.frame.payload, usize::from(seen.frame.lent));
     let value_levels = levels(value);
@@ -173,7 +187,7 @@ fn levels(octets: &[u8]) -> Option<usize> {
 }
 
 /// The APDU that a request asks for.
-fn outgoing<'a>(seen: &Seen<'a>) -> Option<Outgoing<'a>> {
+pub fn outgoing<'a>(seen: &Seen<'a>) -> Option<Outgoing<'a>> {
     let Frame { kind, detail, id, code, payload: value, .. } = *seen.frame;
     match kind {
         frame::INVOKE => Some(Outgoing::Invoke { id, linked: seen.frame.linked_id(), code, value }),

@@ -1,17 +1,46 @@
 //! Elements of BER: identifier, length and contents, reading and writing.
-//! Follows document 01, "Well-formed octets".
+//! Follows document 01, "Well-formed octets", with document 02, request Three.
 
-/// One element as a part of the octets it was read from.
-#[derive(Clone, Copy)]
-pub struct Element<'a> {
-    pub whole: &'a [u8],
-    pub contents: &'a [u8],
+/// What stands behind the last element inside one of indefinite length.
+pub const CLOSING: [u8; 2] = [0x00, 0x00];
+
+/// What the length octets say.
+#[derive(Clone, Copy, Debug, PartialEq, Eq)]
+pub enum Length {
+    Definite(usize),
+    /// The contents go on up to closing octets.
+    Indefinite,
 }
 
-impl Element<'_> {
+/// Identifier and length of an element, and what stands behind them.
+#[derive(Clone, Copy)]
+pub struct Header<'a> {
+    /// The first identifier octet.
+    pub identifier: u8,
+    pub length: Length,
+    pub behind: &'a [u8],
+}
+
+/// One element as a part of the octets it was read from, with its closing octets if it has some.
+#[derive(Clone, Copy, Debug, PartialEq, Eq)]
+pub struct Element<'a> {
+    pub whole: &'a [u8],
+    pub levels: usize,
+}
+
+impl<'a> Element<'a> {
     /// The first identifier octet.
     pub fn identifier(&self) -> u8 {
         self.whole[0]
+    }
+
+    /// The contents, without closing octets.
+    pub fn contents(&self) -> &'a [u8] {
+        match header(self.whole) {
+            Some(Header { length: Length::Definite(_), behind, .. }) => behind,
+            Some(Header { behind, .. }) => behind.strip_suffix(&CLOSING).unwrap_or(behind),
+            None => &[],
+        }
     }
 }
 
@@ -21,27 +50,32 @@ pub fn place(octets: &[u8], part: &[u8]) -> (usize, usize) {
     (at, at + part.len())
 }
 
-/// Splits the first element off; checks the forms of identifier and length, nothing inside.
-#[inline]
-pub fn split(octets: &[u8]) -> Option<(Element<'_>, &[u8])> {
-    let (start, length) = match *octets {
-        // Most headers are two octets.
-        [first, length @ 0..=0x7F, ..] if first & 0x1F != 0x1F => (2, usize::from(length)),
-        _ => long_header(octets)?,
-    };
-    if length > octets.len() - start {
-        return None;
-    }
-    let (whole, rest) = octets.split_at(start + length);
-    Some((Element { whole, contents: &whole[start..] }, rest))
+pub fn is_constructed(identifier: u8) -> bool {
+    identifier & 0x20 != 0
 }
 
-/// Where the contents start and how long they are.
-fn long_header(octets: &[u8]) -> Option<(usize, usize)> {
-    let (&first, after) = octets.split_first()?;
-    let more = if first & 0x1F == 0x1F { high_tag(after)? } else { 0 };
-    let (length, used) = length(&after[more..])?;
-    Some((1 + more + used, length))
+/// Whether octets start with an element of indefinite length.
+pub fn is_indefinite(octets: &[u8]) -> bool {
+    header(octets).is_some_and(|header| header.length == Length::Indefinite)
+}
+
+/// Reads identifier and length of the first element; nothing behind them is looked at.
+#[inline]
+pub fn header(octets: &[u8]) -> Option<Header<'_>> {
+    match *octets {
+        // Most headers are two octets.
+        [identifier, length @ 0..=0x7F, ref behind @ ..] if identifier & 0x1F != 0x1F => {
+            Some(Header { identifier, length: Length::Definite(usize::from(length)), behind })
+        }
+        _ => long_header(octets),
+    }
+}
+
+fn long_header(octets: &[u8]) -> Option<Header<'_>> {
+    let (&identifier, after) = octets.split_first()?;
+    let more = if identifier & 0x1F == 0x1F { high_tag(after)? } else { 0 };
+    let (length, behind) = length(&after[more..])?;
+    Some(Header { identifier, length, behind })
 }
 
 /// How many more identifier octets a high tag number takes: 1 to 4, number at least 31.
@@ -51,56 +85,86 @@ fn high_tag(after: &[u8]) -> Option<usize> {
     (first >= 0x1F && first != 0x80).then_some(last + 1)
 }
 
-/// The length and how many octets it takes: short form, or long form with 1 to 4 octets.
-fn length(octets: &[u8]) -> Option<(usize, usize)> {
+/// The length and what stands behind its octets: short form, 80, or long form with 1 to 4 octets.
+fn length(octets: &[u8]) -> Option<(Length, &[u8])> {
     let (&first, after) = octets.split_first()?;
     match first {
-        0..=0x7F => Some((usize::from(first), 1)),
+        0..=0x7F => Some((Length::Definite(usize::from(first)), after)),
+        0x80 => Some((Length::Indefinite, after)),
         0x81..=0x84 => {
-            let count = usize::from(first - 0x80);
-            let value = after.get(..count)?.iter().fold(0, |sum, &octet| sum << 8 | usize::from(octet));
-            Some((value, 1 + count))
+            let (length, behind) = after.split_at_checked(usize::from(first - 0x80))?;
+            let length = length.iter().fold(0, |sum, &octet| sum << 8 | usize::from(octet));
+            Some((Length::Definite(length), behind))
         }
         _ => None,
     }
 }
 
-/// How many levels one element filling the octets has, if it is well-formed in at most `most`.
-pub fn levels(octets: &[u8], most: usize) -> Option<usize> {
-    let (element, rest) = split(octets)?;
-    if !rest.is_empty() {
-        return None;
-    }
-    element_levels(element, most)
-}
-
-fn element_levels(element: Element<'_>, most: usize) -> Option<usize> {
-    let identifier = element.identifier();
+/// Splits the first element off, if it is well-formed in at most `most` levels.
+/// Always inlined, so that a primitive element costs no call.
+#[inline(always)]
+pub fn split(octets: &[u8], most: usize) -> Option<(Element<'_>, &[u8])> {
+    let Header { identifier, length, behind } = header(octets)?;
     if most == 0 || matches!(identifier, 0x00 | 0x10 | 0x11 | 0x21 | 0x22 | 0x25 | 0x26 | 0x2A) {
         return None;
     }
-    if identifier & 0x20 != 0 {
-        return Some(1 + contents_levels(element.contents, most - 1)?);
+    let (levels, rest) = match length {
+        Length::Definite(length) => {
+            let (contents, rest) = behind.split_at_checked(length)?;
+            let levels = match is_constructed(identifier) {
+                true => contents_levels(contents, most - 1)?,
+                false => is_right(identifier, contents).then_some(0)?,
+            };
+            (levels, rest)
+        }
+        Length::Indefinite if is_constructed(identifier) => open_contents_levels(behind, most - 1)?,
+        Length::Indefinite => return None,
+    };
+    let whole = &octets[..octets.len() - rest.len()];
+    Some((Element { whole, levels: 1 + levels }, rest))
+}
+
+/// How many levels the elements that fill contents have.
+pub fn contents_levels(mut octets: &[u8], most: usize) -> Option<usize> {
+    let mut deepest = 0;
+    while !octets.is_empty() {
+        let (element, rest) = split(octets, most)?;
+        deepest = deepest.max(element.levels);
+        octets = rest;
     }
-    let contents = element.contents;
-    let right = match identifier {
+    Some(deepest)
+}
+
+/// How many levels the elements before closing octets have, and what stands behind those.
+pub fn open_contents_levels(mut octets: &[u8], most: usize) -> Option<(usize, &[u8])> {
+    let mut deepest = 0;
+    loop {
+        if let Some(rest) = octets.strip_prefix(&CLOSING) {
+            return Some((deepest, rest));
+        }
+        let (element, rest) = split(octets, most)?;
+        deepest = deepest.max(element.levels);
+        octets = rest;
+    }
+}
+
+/// How many levels one element filling the octets has, if it is well-formed in at most `most`.
+pub fn levels(octets: &[u8], most: usize) -> Option<usize> {
+    match split(octets, most)? {
+        (element, []) => Some(element.levels),
+        _ => None,
+    }
+}
+
+/// Whether contents are right for a primitive element with this identifier.
+fn is_right(identifier: u8, contents: &[u8]) -> bool {
+    match identifier {
         0x01 => contents.len() == 1,
         0x02 | 0x0A => is_shortest(contents),
         0x05 => contents.is_empty(),
         0x06 => is_object_identifier(contents),
         _ => true,
-    };
-    right.then_some(1)
-}
-
-fn contents_levels(mut octets: &[u8], most: usize) -> Option<usize> {
-    let mut deepest = 0;
-    while !octets.is_empty() {
-        let (element, rest) = split(octets)?;
-        deepest = deepest.max(element_levels(element, most)?);
-        octets = rest;
     }
-    Some(deepest)
 }
 
 /// At least one octet, and the first nine bits neither all zeros nor all ones.

@@ -1,11 +1,43 @@
 //! The generator's invalid tables, unsound states, and named elements and APDUs.
 
-use crate::cases;
+use crate::cases::{self, Named};
 use crate::faults;
 use crate::frame::{self, Frame};
 use crate::generate::{free_id, Generator, Group};
+use crate::indefinite;
 use crate::model::Model;
 use crate::state::State;
+
+/// Named octets, and what they are there to show.
+pub type List = (Group, &'static [Named]);
+
+/// What is received: an element as a value in an APDU that is right otherwise, or the octets as they are.
+pub const ARRIVALS: &[List] = &[
+    (Group::MalformedReceived, cases::MALFORMED),
+    (Group::MalformedReceived, indefinite::MALFORMED),
+    (Group::WellFormedReceived, cases::WELL_FORMED),
+    (Group::WellFormedReceived, indefinite::WELL_FORMED),
+    (Group::MalformedApdu, indefinite::MALFORMED_APDUS),
+    (Group::MistypedWithId, cases::MISTYPED_WITH_ID),
+    (Group::MistypedWithId, indefinite::MISTYPED_WITH_ID),
+    (Group::MistypedWithoutId, cases::MISTYPED_WITHOUT_ID),
+    (Group::MistypedWithoutId, indefinite::MISTYPED_WITHOUT_ID),
+    (Group::Unrecognized, cases::UNRECOGNIZED),
+    (Group::Unrecognized, indefinite::UNRECOGNIZED),
+    (Group::UnacceptableReject, cases::UNACCEPTABLE_REJECTS),
+    (Group::UnacceptableReject, indefinite::UNACCEPTABLE_REJECTS),
+    (Group::AcceptableReject, cases::ACCEPTABLE_REJECTS),
+    (Group::AcceptableReject, indefinite::ACCEPTABLE_REJECTS),
+];
+
+/// What is given as the value of a request.
+pub const VALUES: &[List] = &[
+    (Group::MalformedValue, cases::MALFORMED),
+    (Group::MalformedValue, indefinite::MALFORMED),
+    (Group::MalformedValue, indefinite::NOT_ONE),
+    (Group::WellFormedValue, cases::WELL_FORMED),
+    (Group::WellFormedValue, indefinite::WELL_FORMED),
+];
 
 /// Lists that are gone through in turn, so that none of their cases is left out for long.
 #[derive(Clone, Copy)]
@@ -79,25 +111,7 @@ impl Generator<'_> {
 
     /// One of the named elements or APDUs, received.
     pub(crate) fn named_arrival(&mut self) {
-        const LISTS: [(Group, &[cases::Named]); 7] = [
-            (Group::MalformedReceived, cases::MALFORMED),
-            (Group::WellFormedReceived, cases::WELL_FORMED),
-            (Group::MistypedWithId, cases::MISTYPED_WITH_ID),
-            (Group::MistypedWithoutId, cases::MISTYPED_WITHOUT_ID),
-            (Group::Unrecognized, cases::UNRECOGNIZED),
-            (Group::UnacceptableReject, cases::UNACCEPTABLE_REJECTS),
-            (Group::AcceptableReject, cases::ACCEPTABLE_REJECTS),
-        ];
-        let mut at = self.turn(Deck::Arrivals, LISTS.iter().map(|(_, list)| list.len()).sum());
-        let (mut group, mut list) = LISTS[0];
-        for (next_group, next_list) in &LISTS[1..] {
-            if at < list.len() {
-                break;
-            }
-            at -= list.len();
-            (group, list) = (*next_group, next_list);
-        }
-        let (name, octets) = list[at];
+        let (group, (name, octets)) = self.named(Deck::Arrivals, ARRIVALS);
         self.label = Some((group, name));
         match group {
             Group::MalformedReceived | Group::WellFormedReceived => self.receive_value(octets),
@@ -110,12 +124,15 @@ impl Generator<'_> {
 
     /// One of the named elements as the value of a request.
     pub(crate) fn named_value(&mut self) {
-        let at = self.turn(Deck::Values, cases::MALFORMED.len() + cases::WELL_FORMED.len());
-        let (group, (name, octets)) = match at.checked_sub(cases::MALFORMED.len()) {
-            None => (Group::MalformedValue, cases::MALFORMED[at]),
-            Some(at) => (Group::WellFormedValue, cases::WELL_FORMED[at]),
-        };
+        let (group, (name, octets)) = self.named(Deck::Values, VALUES);
         self.label = Some((group, name));
         self.send_value(octets);
+    }
+
+    /// The next of the named octets in lists.
+    fn named(&mut self, deck: Deck, lists: &[List]) -> (Group, Named) {
+        let at = self.turn(deck, lists.iter().map(|(_, list)| list.len()).sum());
+        let mut all = lists.iter().flat_map(|(group, list)| list.iter().map(|named| (*group, *named)));
+        all.nth(at).expect("a turn is below the number of cases")
     }
 }

@@ -2,13 +2,14 @@
 
 use std::collections::BTreeSet;
 
-use crate::answer::{Indication, Problem};
+use crate::answer::{Answer, Indication, Problem};
 use crate::apdu::{Apdu, Invoke};
 use crate::capture::{self, Entry, Kind};
 use crate::captures::{self, Drawn};
 use crate::changed::CHANGES;
 use crate::damaged::DAMAGES;
 use crate::engine::Invocation;
+use crate::octets;
 use crate::replay::{self, Step, Verdict};
 use crate::rows::Rows;
 use crate::slips::SLIPS;
@@ -20,7 +21,7 @@ pub const CAPTURES: u64 = 10_000;
 pub const LEAST: u64 = 50;
 
 /// What a capture that agrees can have.
-const AGREES: [&str; 28] = [
+const AGREES: [&str; 36] = [
     "no entries",
     "one entry",
     "1,000 entries",
@@ -48,6 +49,14 @@ const AGREES: [&str; 28] = [
     "an own record forgotten",
     "a peer record forgotten",
     "an own id used again",
+    "an invoke of indefinite length received",
+    "a result of indefinite length received",
+    "an error of indefinite length received",
+    "another APDU of indefinite length received",
+    "an indefinite value received",
+    "an indefinite value sent",
+    "an APDU of indefinite length with its Reject",
+    "an entry of 4,096 octets with an indefinite value",
     "an entry behind a refused APDU's Reject",
 ];
 
@@ -85,7 +94,7 @@ impl Reached {
         let mut things = BTreeSet::new();
         let (mut ids, mut rejected) = (BTreeSet::new(), false);
         let verdict = replay::watch(&drawn.table, &drawn.capture, |entry, step| {
-            things.extend(thing(&step).into_iter().chain(limit(entry)));
+            things.extend(thing(&step).into_iter().chain(limit(entry)).chain(forms(entry, &step)));
             if let Step::Sent(Apdu::Invoke(Invoke { id, .. })) = step {
                 things.extend((!ids.insert(id)).then_some("an own id used again"));
             }
@@ -145,6 +154,35 @@ fn thing(step: &Step<'_>) -> Option<&'static str> {
         Step::Forgotten(Invocation::Own(_)) => "an own record forgotten",
         Step::Forgotten(Invocation::Peer(_)) => "a peer record forgotten",
     })
+}
+
+/// Where an indefinite length stands in an entry that does not differ.
+fn forms(entry: Entry<'_>, step: &Step<'_>) -> Vec<&'static str> {
+    let value = match step {
+        Step::Indicated(indication) => Answer::Indicated(*indication).value(),
+        Step::Sent(apdu) => apdu.value(),
+        _ => None,
+    };
+    let mut forms = Vec::new();
+    if value.is_some_and(octets::is_indefinite) {
+        forms.push(match entry.kind {
+            Kind::Received => "an indefinite value received",
+            _ => "an indefinite value sent",
+        });
+        let full = entry.octets.len() == State::OCTETS;
+        forms.extend(full.then_some("an entry of 4,096 octets with an indefinite value"));
+    }
+    if octets::is_indefinite(entry.octets) {
+        forms.extend(match step {
+            Step::Indicated(Indication::Invoke { .. }) => Some("an invoke of indefinite length received"),
+            Step::Indicated(Indication::Result { .. }) => Some("a result of indefinite length received"),
+            Step::Indicated(Indication::Error { .. }) => Some("an error of indefinite length received"),
+            Step::Indicated(_) => Some("another APDU of indefinite length received"),
+            Step::Rejected(_) => Some("an APDU of indefinite length with its Reject"),
+            _ => None,
+        });
+    }
+    forms
 }
 
 /// The limit that an entry is at.

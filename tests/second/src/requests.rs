@@ -2,11 +2,11 @@
 
 use crate::answer::Problem;
 use crate::apdu::Outgoing;
-use crate::cases;
 use crate::codes;
 use crate::frame::{self, Frame};
-use crate::generate::{free_id, live, side, Generator, Group};
+use crate::generate::{free_id, live, side, Generator};
 use crate::model::OperationRow;
+use crate::oddities::VALUES;
 use crate::state::Record;
 use crate::table::Rule;
 use crate::values;
@@ -173,24 +173,23 @@ impl Generator<'_> {
             0..=1 => Vec::new(),
             2..=3 => values::value(&mut self.random, [0x02, 0x04, 0x30, 0x80][(kind & 3) as usize]),
             4 => values::value(&mut self.random, kind ^ [0x20, 0x40, 0x80, 0x01][(kind >> 3 & 3) as usize]),
-            5..=6 => {
-                let (name, octets) = cases::MALFORMED[self.random.below(cases::MALFORMED.len())];
-                self.label = self.label.or(Some((Group::MalformedValue, name)));
-                octets.to_vec()
-            }
-            7 => {
-                let (name, octets) = cases::WELL_FORMED[self.random.below(cases::WELL_FORMED.len())];
-                self.label = self.label.or(Some((Group::WellFormedValue, name)));
+            5..=7 => {
+                let (group, list) = VALUES[self.random.below(VALUES.len())];
+                let (name, octets) = list[self.random.below(list.len())];
+                self.label = self.label.or(Some((group, name)));
                 octets.to_vec()
             }
             8 => {
                 let mut octets = values::value(&mut self.random, kind.max(1));
-                values::damage(&mut self.random, &mut octets);
+                match self.random.percent(50) {
+                    true => values::damage(&mut self.random, &mut octets),
+                    false => values::damage_closing(&mut self.random, &mut octets),
+                }
                 octets
             }
             _ => {
-                let levels = self.random.between(14, 18);
-                values::deep(kind | 0x20, levels, true)
+                let (levels, forms) = (self.random.between(14, 18), self.forms());
+                values::deep_in_forms(kind | 0x20, levels, self.random.percent(50), forms)
             }
         }
     }

@@ -52,6 +52,36 @@ const DAYS: &[(&str, &str, &str)] = &[
     ("reject-twice", "received A500, sent A4050500800100, sent A4050500800100", "entry 2 differs"),
 ];
 
+/// Operation 2 of class 2 and error 1, each with an optional value of type 30.
+const CONSTRUCTED: &str = "0001 0010 0001 0018 0001 001E 0000 0022 00000002 02303003 00000001 3001 0000 0000";
+
+/// Days with elements of indefinite length.
+const INDEFINITE: &[(&str, &str, &str)] = &[
+    (
+        "indefinite-received",
+        "sent A106020105020102, received A2800201053080020102308002010700000000 0000,
+         sent A106020106020102, received A380020106020101308000000000,
+         received A180020107020102308002010700000000, received A4800201078101000000",
+        "entries 6 agree",
+    ),
+    (
+        "indefinite-values-sent",
+        "sent A10D020105020102308002010700 00, received A106020107020102, sent A20F020107300A0201023080020107 0000,
+         received A106020108020102, sent A30A02010802010130800000",
+        "entries 5 agree",
+    ),
+    ("indefinite-invoke-sent", "sent A1800201050201020000", "entry 0 differs"),
+    ("indefinite-result-sent", "received A106020107020102, sent A28002010730050201023000 0000", "entry 1 differs"),
+    ("indefinite-30-sent", "received A106020107020102, sent A20C02010730800201023000 0000", "entry 1 differs"),
+    ("indefinite-value-not-closed-sent", "sent A10A0201050201023080 0500", "entry 0 differs"),
+    ("not-closed", "received A180020105020102, sent A4050500800102", "entries 2 agree"),
+    ("not-closed-without-its-reject", "received A180020105020102", "entry 1 differs"),
+    ("closed-twice", "received A18002010502010200000000, sent A4050500800102", "entries 2 agree"),
+    ("closed-in-definite-contents", "received A1080201050201020000, sent A4050500800102", "entries 2 agree"),
+    ("reject-not-closed", "received A480020105810100, received A480", "entries 2 agree"),
+    ("reject-awaited-indefinite-sent", "received A500, sent A48005008001000000", "entry 1 differs"),
+];
+
 /// Whole captures that are malformed.
 const MALFORMED: &[(&str, &str)] = &[
     ("no-octets", ""),
@@ -102,10 +132,12 @@ pub fn samples() -> Vec<Sample> {
     let sample =
         |name, table: &str, capture, line| Sample { name, table: octets(table), capture, line: format!("{line}\n") };
     let days = DAYS.iter().map(|(name, day, line)| sample(name, TABLE, days::capture(&entries(day)), *line));
+    let indefinite =
+        INDEFINITE.iter().map(|(name, day, line)| sample(name, CONSTRUCTED, days::capture(&entries(day)), *line));
     let malformed = MALFORMED.iter().map(|(name, capture)| sample(name, TABLE, octets(capture), "refused 20"));
     let long = LONG.iter().map(|(name, capture, line)| sample(name, TABLE, capture(), *line));
     let tables = TABLES.iter().map(|(name, table, capture)| sample(name, table, octets(capture), "refused 1"));
-    days.chain(malformed).chain(long).chain(tables).collect()
+    days.chain(indefinite).chain(malformed).chain(long).chain(tables).collect()
 }
 
 /// The names of the samples' files with their octets. A sample without a table of its own has that of `right.table`.

@@ -2,7 +2,7 @@
 
 use crate::capture::{Kind, Reader};
 use crate::frame::{self, Frame};
-use crate::octets;
+use crate::octets::{self, Header, Length, CLOSING};
 use crate::replay::End;
 use crate::state::{Side, State};
 use crate::table::{Rule, Table};
@@ -105,18 +105,59 @@ pub fn capture(table: &[u8], capture: &[u8], place: usize) -> String {
 /// The elements one under another, as far as they can be read.
 fn elements(text: &mut String, mut octets: &[u8], level: usize) {
     while !octets.is_empty() {
-        let margin = "  ".repeat(level.min(20));
-        let Some((element, rest)) = octets::split(octets) else {
-            *text += &format!("{margin}no element: {}\n", hex(octets));
-            return;
-        };
-        let header = hex(&element.whole[..element.whole.len() - element.contents.len()]);
-        if element.identifier() & 0x20 != 0 {
+        octets = element(text, octets, level);
+    }
+}
+
+/// Shows the first element and gives what stands behind it.
+fn element<'a>(text: &mut String, octets: &'a [u8], level: usize) -> &'a [u8] {
+    let margin = "  ".repeat(level.min(20));
+    let Some(Header { identifier, length, behind }) = octets::header(octets) else {
+        *text += &format!("{margin}no element: {}\n", hex(octets));
+        return &[];
+    };
+    let header = hex(&octets[..octets.len() - behind.len()]);
+    match length {
+        Length::Definite(length) => match behind.split_at_checked(length) {
+            None => {
+                *text += &format!("{margin}{header} too long: {}\n", hex(behind));
+                &[]
+            }
+            Some((contents, rest)) if octets::is_constructed(identifier) => {
+                *text += &format!("{margin}{header}\n");
+                elements(text, contents, level + 1);
+                rest
+            }
+            Some((contents, rest)) => {
+                *text += &format!("{margin}{header} : {}\n", hex(contents));
+                rest
+            }
+        },
+        Length::Indefinite if octets::is_constructed(identifier) => {
             *text += &format!("{margin}{header}\n");
-            elements(text, element.contents, level + 1);
-        } else {
-            *text += &format!("{margin}{header} : {}\n", hex(element.contents));
+            open_elements(text, behind, level + 1)
         }
-        octets = rest;
+        Length::Indefinite => {
+            *text += &format!("{margin}{header} primitive: {}\n", hex(behind));
+            &[]
+        }
+    }
+}
+
+/// Shows elements up to closing octets and gives what stands behind those.
+fn open_elements<'a>(text: &mut String, mut octets: &'a [u8], level: usize) -> &'a [u8] {
+    while !octets.is_empty() && !octets.starts_with(&CLOSING) {
+        octets = element(text, octets, level);
+    }
+    let margin = "  ".repeat(level.min(20));
+    match octets.strip_prefix(&CLOSING) {
+        Some(rest) => {
+            *text += &format!("{margin}00 00 closes\n");
+            rest
+        }
+        None => {
+            *text += &format!("{margin}no closing octets\n");
+            octets
+        }
     }
 }

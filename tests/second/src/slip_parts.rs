@@ -7,9 +7,9 @@ use crate::days::{Logged, SENT};
 use crate::generate::{free_id, live, side, Generator};
 use crate::model::OperationRow;
 use crate::octets;
-use crate::state::Record;
+use crate::state::{Record, State};
 use crate::table::Rule;
-use crate::values::{self, element, element_in_form, integer_contents};
+use crate::values::{self, element, element_in_form, indefinite, integer_contents};
 
 impl Generator<'_> {
     /// An id that is not live on a side.
@@ -104,7 +104,7 @@ impl Generator<'_> {
         change: impl FnOnce(&mut Vec<Vec<u8>>) -> Option<()>,
     ) -> Option<bool> {
         let last = self.entries().last_mut().filter(|entry| entry.is_request() && entry.octets[0] == apdu)?;
-        let mut fields = parts(octets::split(&last.octets)?.0.contents);
+        let mut fields = parts(octets::split(&last.octets, State::LEVELS)?.0.contents());
         change(&mut fields)?;
         last.octets = element(apdu, &fields.concat());
         Some(true)
@@ -115,7 +115,7 @@ impl Generator<'_> {
         let (form, inside) = (self.random.between(1, 4), self.random.percent(50));
         if !inside {
             let last = self.entries().last_mut().filter(|entry| entry.is_request() && entry.octets[0] == apdu)?;
-            let contents = octets::split(&last.octets)?.0.contents.to_vec();
+            let contents = octets::split(&last.octets, State::LEVELS)?.0.contents().to_vec();
             let form = if contents.len() < 0x80 { form } else { 4 };
             last.octets = element_in_form(apdu, &contents, form);
             return Some(true);
@@ -127,11 +127,18 @@ impl Generator<'_> {
         })
     }
 
+    /// Gives an APDU an indefinite length.
+    pub(crate) fn unmeasure(&mut self, apdu: u8) -> Option<bool> {
+        let last = self.entries().last_mut().filter(|entry| entry.is_request() && entry.octets[0] == apdu)?;
+        last.octets = indefinite(apdu, octets::split(&last.octets, State::LEVELS)?.0.contents());
+        Some(true)
+    }
+
     /// Gives the last entry's result another code.
     pub(crate) fn change_result(&mut self, code: impl FnOnce(&[u8]) -> Vec<u8>) -> Option<bool> {
         self.change_fields(apdu::RESULT, |fields| {
             let sequence = fields.get_mut(1)?;
-            let mut inner = parts(octets::split(sequence)?.0.contents);
+            let mut inner = parts(octets::split(sequence, State::LEVELS)?.0.contents());
             inner[0] = code(&inner[0]);
             *sequence = element(0x30, &inner.concat());
             Some(())
@@ -142,7 +149,7 @@ impl Generator<'_> {
 /// The elements one after another.
 fn parts(mut octets: &[u8]) -> Vec<Vec<u8>> {
     let mut parts = Vec::new();
-    while let Some((element, rest)) = octets::split(octets) {
+    while let Some((element, rest)) = octets::split(octets, State::LEVELS) {
         parts.push(element.whole.to_vec());
         octets = rest;
     }

@@ -7,9 +7,11 @@ use crate::cases;
 use crate::days::{Logged, RECEIVED};
 use crate::frame::{self, Frame};
 use crate::generate::{live, Generator};
+use crate::indefinite as named;
 use crate::model::OperationRow;
+use crate::octets::{self, CLOSING};
 use crate::state::{Record, State};
-use crate::values::{self, element, element_in_form, integer_contents};
+use crate::values::{self, element, element_in_form, indefinite, integer_contents};
 
 /// Puts in an entry that differs, if the state reached and the last entry allow it; whether the day then goes on.
 type Slip = fn(&mut Generator<'_>) -> Option<bool>;
@@ -70,7 +72,7 @@ pub(crate) const SLIPS: &[(&str, &str, Slip)] = &[
             |row: &OperationRow| matches!(row.result, 0x04 | 0x30 | 0xA0 | 0x80) && !(-128..128).contains(&row.code);
         let (id, row) = end.invoked(large)?;
         let around = Outgoing::Result { id, code: 0, value: &[0; 4000] }.octets() - 4000;
-        let mut value = values::sized(State::OCTETS - around);
+        let mut value = values::sized(State::OCTETS - around, false);
         value[0] = row.result;
         end.put(Outgoing::Result { id, code: 0, value: &value })
     }),
@@ -141,12 +143,29 @@ pub(crate) const SLIPS: &[(&str, &str, Slip)] = &[
         let side = end.random.between(2, 255) as u8;
         end.put_entry(Logged::forget(side, id))
     }),
-    ("sent octets that are not well formed", "not well formed", |end| end.put_case(&[cases::MALFORMED])),
+    ("sent octets that are not well formed", "not well formed", |end| {
+        end.put_case(&[cases::MALFORMED, named::MALFORMED, named::MALFORMED_APDUS])
+    }),
     ("a sent APDU cut short", "not well formed", |end| end.change_last(|octets| octets.truncate(octets.len() - 1))),
     ("a sent APDU with an octet behind it", "not well formed", |end| end.change_last(|octets| octets.push(0))),
-    ("a sent element that is no APDU", "another first octet", |end| end.put_case(&[cases::UNRECOGNIZED])),
+    ("a sent APDU of indefinite length, not closed", "not well formed", |end| {
+        end.change_last(|octets| octets[1] = 0x80)
+    }),
+    ("a sent APDU with closing octets behind it", "not well formed", |end| {
+        end.change_last(|octets| octets.extend(CLOSING))
+    }),
+    ("a sent value without its closing octets", "not well formed", |end| {
+        end.change_fields(apdu::INVOKE, |fields| {
+            let value = fields.last_mut().filter(|value| octets::is_indefinite(value))?;
+            value.truncate(value.len() - CLOSING.len());
+            Some(())
+        })
+    }),
+    ("a sent element that is no APDU", "another first octet", |end| {
+        end.put_case(&[cases::UNRECOGNIZED, named::UNRECOGNIZED])
+    }),
     ("a sent APDU with wrong fields", "wrong fields", |end| {
-        end.put_case(&[cases::MISTYPED_WITH_ID, cases::MISTYPED_WITHOUT_ID])
+        end.put_case(&[cases::MISTYPED_WITH_ID, cases::MISTYPED_WITHOUT_ID, named::MISTYPED_WITH_ID])
     }),
     ("a sent Reject with wrong fields", "wrong fields", |end| end.put_case(&[cases::UNACCEPTABLE_REJECTS])),
     ("an invoke with a 06 code", "code 06", |end| end.put_code(0xA1, 0x06, &[0x2A, 0x07])),
@@ -164,6 +183,17 @@ pub(crate) const SLIPS: &[(&str, &str, Slip)] = &[
     ("a result in long form", "result with other octets", |end| end.lengthen(apdu::RESULT)),
     ("an error in long form", "error with other octets", |end| end.lengthen(apdu::ERROR)),
     ("a user reject in long form", "user reject with other octets", |end| end.lengthen(apdu::REJECT)),
+    ("an invoke of indefinite length", "invoke with other octets", |end| end.unmeasure(apdu::INVOKE)),
+    ("a result of indefinite length", "result with other octets", |end| end.unmeasure(apdu::RESULT)),
+    ("an error of indefinite length", "error with other octets", |end| end.unmeasure(apdu::ERROR)),
+    ("a user reject of indefinite length", "user reject with other octets", |end| end.unmeasure(apdu::REJECT)),
+    ("a result with an indefinite 30", "result with other octets", |end| {
+        end.change_fields(apdu::RESULT, |fields| {
+            let sequence = fields.get_mut(1)?;
+            *sequence = indefinite(0x30, octets::split(sequence, State::LEVELS)?.0.contents());
+            Some(())
+        })
+    }),
     ("an invoke with 81 00", "invoke with other octets", |end| {
         end.change_fields(apdu::INVOKE, |fields| {
             let unlinked = fields.get(1).is_some_and(|field| field[0] == 0x02);
@@ -212,6 +242,11 @@ pub(crate) const SLIPS: &[(&str, &str, Slip)] = &[
     ("a Reject in long form", "Reject awaited, other octets", |end| {
         let reject = end.awaited()?;
         reject.octets = element_in_form(apdu::REJECT, &reject.octets[2..], 1);
+        Some(true)
+    }),
+    ("a Reject of indefinite length", "Reject awaited, other octets", |end| {
+        let reject = end.awaited()?;
+        reject.octets = indefinite(apdu::REJECT, &reject.octets[2..]);
         Some(true)
     }),
     ("a Reject and an octet behind it", "Reject awaited, other octets", |end| {

@@ -5,6 +5,7 @@ use crate::apdu;
 use crate::capture::{Malformed, Reader};
 use crate::octets;
 use crate::replay::{self, How, Verdict};
+use crate::state::State;
 
 /// Ways in which an entry differs.
 pub const DIFFERS: [&str; 37] = [
@@ -111,10 +112,10 @@ fn differs(how: How, octets: &[u8]) -> String {
 
 /// The identifier octet of the code of an Invoke or Error.
 fn code_identifier(octets: &[u8]) -> Option<u8> {
-    let (apdu, _) = octets::split(octets)?;
-    let (_id, mut rest) = octets::split(apdu.contents)?;
+    let (apdu, _) = octets::split(octets, State::LEVELS)?;
+    let (_id, mut rest) = octets::split(apdu.contents(), State::LEVELS)?;
     if apdu.identifier() == apdu::INVOKE && matches!(rest.first(), Some(0x80 | 0x81)) {
-        rest = octets::split(rest)?.1;
+        rest = octets::split(rest, State::LEVELS)?.1;
     }
     rest.first().copied()
 }

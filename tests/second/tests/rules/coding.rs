@@ -4,7 +4,7 @@ use crate::common::hex;
 use second::answer::Problem;
 use second::apdu::Outgoing;
 use second::octets::{element_octets, integer, integer_octets, length_octets, levels, split, Writer};
-use second::values::{deep, element, element_in_form, sized};
+use second::values::{deep, deep_in_forms, element, element_in_form, sized};
 
 /// The first and the last length of each octet count, and the octets of its shortest form.
 const LENGTHS: [(usize, &str); 10] = [
@@ -66,7 +66,7 @@ fn lengths_are_read_back_in_every_form() {
     for (length, octets) in LENGTHS {
         let shortest = hex(octets).len() - 1;
         if length > 0x100_0000 {
-            assert!(split(&[&[0x04][..], &hex(octets), &[0]].concat()).is_none(), "{length}");
+            assert!(split(&[&[0x04][..], &hex(octets), &[0]].concat(), 16).is_none(), "{length}");
             continue;
         }
         let contents = vec![0x41; length];
@@ -74,9 +74,9 @@ fn lengths_are_read_back_in_every_form() {
             let whole = element_in_form(0x04, &contents, form);
             assert_eq!(whole.len(), 2 + form + length, "{length} in {form}");
             assert_eq!(whole == element(0x04, &contents), form == shortest, "{length} in {form}");
-            let (read, rest) = split(&whole).unwrap();
-            assert!(read.contents == contents && rest.is_empty(), "{length} in {form}");
-            assert!(split(&whole[..whole.len() - 1]).is_none(), "{length} in {form}, one octet short");
+            let (read, rest) = split(&whole, 1).unwrap();
+            assert!(read.contents() == contents && rest.is_empty(), "{length} in {form}");
+            assert!(split(&whole[..whole.len() - 1], 1).is_none(), "{length} in {form}, one octet short");
         }
     }
 }
@@ -106,7 +106,9 @@ fn integers_that_are_not_shortest_or_too_long_are_none() {
 
 #[test]
 fn apdus_are_measured_as_they_are_written() {
-    let values = [Vec::new(), deep(0x30, 1, false), deep(0x30, 16, true), sized(200), sized(300), sized(65_539)];
+    let (all, some) = (deep_in_forms(0x30, 16, false, |_| true), deep_in_forms(0x30, 9, true, |level| level % 2 == 0));
+    let sized = [200, 300, 65_539].map(|octets| sized(octets, octets == 300));
+    let values = [vec![Vec::new(), deep(0x30, 1, false), deep(0x30, 16, true), all, some], sized.to_vec()].concat();
     for (number, value) in INTEGERS.iter().flat_map(|(number, _)| values.iter().map(move |value| (*number, value))) {
         let problem = Problem::MISTYPED_APDU;
         let value_levels = levels(value, 99).unwrap_or(0);

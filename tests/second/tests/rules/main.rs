@@ -5,6 +5,7 @@ mod coding;
 mod common;
 mod examples;
 mod gate;
+mod indefinite;
 mod lines;
 mod lookups;
 mod readings;

@@ -69,6 +69,11 @@ fn other_octets_differ() {
         (&format!("{invoked}, > A20B 020105 3006 060102 020100"), "entry 1 differs"),
         (&format!("{invoked}, > A20F 020105 300A 02050100000002 020100"), "entry 1 differs"),
         (&format!("{invoked}, > A4810602010581 0102"), "entry 1 differs"),
+        ("> A180 020105 020104 0000", "entry 0 differs"),
+        (&format!("{invoked}, > A280 020105 3006 020102 020100 0000"), "entry 1 differs"),
+        (&format!("{invoked}, > A20D 020105 3080 020102 020100 0000"), "entry 1 differs"),
+        (&format!("{invoked}, > A380 020105 020101 0000"), "entry 1 differs"),
+        (&format!("{invoked}, > A480 020105 810102 0000"), "entry 1 differs"),
         // The value itself is copied as it is.
         ("< A107 020105 0202012C, > A210 020105 300B 0202012C 0484 00000001 41", "entries 2 agree"),
     ]);
@@ -83,6 +88,9 @@ fn what_fits_no_call_differs() {
         "00",
         "A1",
         "A180",
+        "A180 020105 020104",
+        "A180 020105 020104 0000 0000",
+        "A108 020105 020104 0000",
         "A5 00",
         "A103 020105",
         "A106 020105 060104",

@@ -3,6 +3,7 @@
 use crate::common::{hex, model, play, state};
 use crate::readings::table;
 use second::cases;
+use second::indefinite;
 use second::octets::levels;
 use second::state::State;
 use second::table::Table;
@@ -20,10 +21,10 @@ fn received(octets: &[u8]) -> String {
 
 #[test]
 fn named_elements() {
-    for (name, octets) in cases::MALFORMED {
+    for (name, octets) in [cases::MALFORMED, indefinite::MALFORMED, indefinite::NOT_ONE].concat() {
         assert_eq!(levels(octets, 16), None, "{name}");
     }
-    for (name, octets) in cases::WELL_FORMED {
+    for (name, octets) in [cases::WELL_FORMED, indefinite::WELL_FORMED].concat() {
         assert!(levels(octets, 16).is_some(), "{name}");
     }
 }
@@ -31,14 +32,23 @@ fn named_elements() {
 #[test]
 fn named_apdus() {
     let expected = [
-        (cases::MISTYPED_WITH_ID, "refused 18 80 01 own 0000 peer 0000 out a406020105800101"),
-        (cases::MISTYPED_WITHOUT_ID, "refused 18 80 01 own 0000 peer 0000 out a4050500800101"),
-        (cases::UNRECOGNIZED, "refused 18 80 00 own 0000 peer 0000 out a4050500800100"),
-        (cases::UNACCEPTABLE_REJECTS, "refused 17 own 0000 peer 0000 out -"),
-        (cases::ACCEPTABLE_REJECTS, "reject-"),
+        (&[][..], indefinite::MALFORMED_APDUS, "refused 18 80 02 own 0000 peer 0000 out a4050500800102"),
+        (
+            cases::MISTYPED_WITH_ID,
+            indefinite::MISTYPED_WITH_ID,
+            "refused 18 80 01 own 0000 peer 0000 out a406020105800101",
+        ),
+        (
+            cases::MISTYPED_WITHOUT_ID,
+            indefinite::MISTYPED_WITHOUT_ID,
+            "refused 18 80 01 own 0000 peer 0000 out a4050500800101",
+        ),
+        (cases::UNRECOGNIZED, indefinite::UNRECOGNIZED, "refused 18 80 00 own 0000 peer 0000 out a4050500800100"),
+        (cases::UNACCEPTABLE_REJECTS, indefinite::UNACCEPTABLE_REJECTS, "refused 17 own 0000 peer 0000 out -"),
+        (cases::ACCEPTABLE_REJECTS, indefinite::ACCEPTABLE_REJECTS, "reject-"),
     ];
-    for (list, answer) in expected {
-        for (name, octets) in list {
+    for (definite, indefinite, answer) in expected {
+        for (name, octets) in definite.iter().chain(indefinite) {
             let line = received(octets);
             assert!(line.starts_with(answer), "{name}: {line}");
         }
@@ -74,7 +84,7 @@ fn four_thousand_and_ninety_six_octets() {
             (0, whole + 1, "refused 15"),
             (9000, 5000, "refused 15"),
         ] {
-            let call = format!("@{lent} {request} {}", text(&sized(octets)));
+            let call = format!("@{lent} {request} {}", text(&sized(octets, false)));
             assert!(play(&table, &state(&[], &[(6, 7)]), &call).starts_with(answer), "{request} {octets}");
         }
     }
