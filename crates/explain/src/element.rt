@@ -120,6 +120,23 @@ pub(crate) fn element_line(at: usize, level: usize, element: &[u8], start: usize
     element_words(identifier, contents, is_wrong);
 }
 
+// An element of an indefinite length, of which the identifier and the length are given.
+pub(crate) fn open_line(at: usize, level: usize, header: &[u8]) {
+    let stop = identifier_octets(header);
+    column(at);
+    words(1, b" open:");
+    indentation(level);
+    element_words(octets_of(header, Span { at: 0, end: stop }), b"", false);
+}
+
+// The closing octets of an element at that level.
+pub(crate) fn closing_line(at: usize, level: usize) {
+    column(at);
+    words(1, b"     :");
+    indentation(level);
+    words(1, b" closing octets 00 00\n");
+}
+
 // What stands where the tree stops, with the octets that are left there.
 pub(crate) fn stop_line(at: usize, level: usize, why: &[u8], left: &[u8]) {
     column(at);
