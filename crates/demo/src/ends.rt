@@ -137,6 +137,14 @@ pub(crate) fn error(site: Site, id: u32, code: u32) -> Site {
     answered(site, r, out)
 }
 
+// An answer that another library wrote, at the front of these octets.
+pub(crate) fn other_make(mut site: Site, apdu: [u8; 32], count: usize) -> Site {
+    let before = site.to_kiosk;
+    let answer = sent(b"   another sends    ", before, apdu, count);
+    site.to_kiosk = answer;
+    site
+}
+
 // The kiosk gives an invocation up.
 pub(crate) fn forget(mut site: Site, id: u32) -> Site {
     let state = site.kiosk;

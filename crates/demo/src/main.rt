@@ -13,6 +13,7 @@ use ends::error;
 use ends::forget;
 use ends::kiosk_reads;
 use ends::opened;
+use ends::other_make;
 use ends::result;
 use words::say;
 
@@ -83,15 +84,30 @@ fn not_understood(mut site: Site) -> Site {
     site
 }
 
+// A result and its 30 of indefinite lengths, 17 octets.
+const ANOTHER: [u8; 32] = *b"\
+    \xa2\x80\x02\x01\x0b\x30\x80\x02\x01\x07\x02\x01\x0e\x00\x00\x00\x00\
+    \x00\x00\x00\x00\x00\x00\x00\x00\x00\x00\x00\x00\x00\x00\x00";
+
+fn indefinite(mut site: Site) -> Site {
+    say(b"\n8. A controller of another make: closing octets 00 00 say where an element ends\n");
+    site = ask(site, 11);
+    site = other_make(site, ANOTHER, 17);
+    kiosk_reads(site)
+}
+
 fn main() {
     say(b"A water kiosk asks a probe controller for chlorine readings; the channel can fail.\n");
     say(b"Operation 7 reads the probe that its argument names, in hundredths of a mg/l.\n");
-    say(b"The library wrote all octets, shown in hex; each 'reads' line is what it answered.\n");
+    say(
+        b"The library wrote what kiosk and controller send, in hex; each 'reads' line is its answer.\n",
+    );
     let mut site = three_answers(opened());
     site = lost(site);
     site = repeated(site);
     site = late(site);
     site = not_understood(site);
+    site = indefinite(site);
     let day = site.day;
     close(day);
 }
