@@ -2,8 +2,8 @@
 use Prim.Native.Nat.{ℕ, _+_, _-_, _/_, _%_, _≤_}
 use mathlib.Core.Path.{_≡_, refl, sym, ap, subst, _∙_}
 use mathlib.Core.Bool.{Bool, true, false, cond, _&&_, true≢false}
-use mathlib.Core.List.{List, [], _∷_}
-use mathlib.Core.Option.{Option, some, none}
+use mathlib.Core.List.{List, _∷_}
+use mathlib.Core.Option.{some, none}
 use native.Mathlib.Omega.{arith}
 use lib.ListN.{length, getD}
 use lib.Dec.{eqb, leb}
@@ -12,11 +12,12 @@ use Rattle.base.proofs.Tests.{cond-elim, cond-true, cond-false, and-right, or-f
 use Rattle.base.specs.Octets.{part}
 use Rattle.records.specs.Limits.{levels}
 use Rattle.ber.specs.declared.integer.Integer.{Integer}
-use Rattle.ber.specs.declared.integer.Integer.the-variants.{Of as IntegerOf, NoInteger}
+use Rattle.ber.specs.declared.integer.Integer.the-variants.{NoInteger}
 use Rattle.ber.specs.Header.{constructed}
 use Rattle.ber.specs.Rule.{shortest, contentRule}
 use Rattle.ber.specs.Integer.{integerOf}
 use Rattle.ber.specs.Element.{contentsOf, wellFormed}
+use Rattle.ber.proofs.RuleLaws.{constructed-not}
 use Rattle.ber.proofs.FrameLaws.{Framed, well-formed-frame}
 use Rattle.apdu.specs.declared.Number.{Number}
 use Rattle.apdu.specs.declared.Number.the-variants.{Of, Absent}
@@ -28,7 +29,7 @@ use Rattle.apdu.specs.Parse.{Apdu, mistyped, numberOf, numberUnder, isCo
 use Rattle.apdu.specs.Steps.{fieldAt, guarded, isNumber, codedIn, invokeIn, behindNumber}
 use Rattle.apdu.proofs.FieldLaws.{fields-none}
 use Rattle.apdu.proofs.FieldHead.{Head, fields-head}
-use Rattle.apdu.proofs.FieldAnswers.{fieldFrom, none-left, all-wrong, whole-left, not-whole, other-field, field-first, field-listed, primitive-passed, element-passed, element-not}
+use Rattle.apdu.proofs.FieldAnswers.{fieldFrom, none-left, all-wrong, whole-left, not-whole, other-field, field-listed, primitive-passed, element-passed, element-not}
 
 -- ---- a number in shortest form
 
@@ -42,11 +43,6 @@ number-shortest t identifier c w =
     inner e =
         cond-elim (λ (i : Integer). numberOf i ≡ Of w → (identifier ≡ t) × (shortest c ≡ true)) (leb (length c) 4 && shortest c) _ NoInteger
         (λ q _. (e, and-right (leb (length c) 4) _ q)) (λ _ x. let z : _≡_ {A = ℕ} 0 1 = cc in absurd (omega arith))
-
--- a constructed identifier is none of those below
-pub constructed-not : (id t : ℕ) → constructed id ≡ true → (t / 32 % 2 ≡ 1 → ⊥) → id ≡ t → ⊥
-unfolding constructed
-constructed-not id t k n e = n (subst (λ (x : ℕ). x / 32 % 2 ≡ 1) e (eqb-true (id / 32 % 2) 1 k))
 
 module _ (d : ℕ) (s : List ℕ) (at end : ℕ) (r : FieldPlaces) (q : r ≡ fieldAt s at end) (id a n : ℕ) (w : r ≡ FieldAt id a n) (l : 1 ≤ d) where
   -- a field that is a right integer is an element

@@ -11,8 +11,9 @@ use Rattle.ber.specs.declared.header.Header.the-variants.{At, NoHeader}
 use Rattle.ber.specs.Header.{headerOf}
 use Rattle.ber.specs.Element.{contentsOf, size}
 use Rattle.ber.proofs.HeaderLaws.{header-bounds}
-use Rattle.ber.proofs.ElementLaws.{element-bounds, First, contents-first}
-use Rattle.ber.proofs.ElementFacts.{Definite, Indefinite, element-facts}
+use Rattle.ber.proofs.ElementBounds.{element-bounds}
+use Rattle.ber.proofs.ElementLaws.{First, contents-first}
+use Rattle.ber.proofs.ElementFacts.{element-facts}
 use Rattle.ber.proofs.Locality.{alone-well-formed}
 use Rattle.ber.proofs.FrameLaws.{frame-bounds, Framed, well-formed-frame}
 use Rattle.apdu.specs.Field.{Part, partBehind, Field, fields}

@@ -11,7 +11,7 @@ use Rattle.ber.specs.declared.element.Frame.the-variants.{Of, NoFrame}
 use Rattle.ber.specs.Element.{size, frameOf}
 use Rattle.base.specs.Octets.{part}
 use Rattle.ber.proofs.HeaderLaws.{Bounds}
-use Rattle.ber.proofs.ElementLaws.{element-bounds}
+use Rattle.ber.proofs.ElementBounds.{element-bounds}
 use Rattle.ber.proofs.FrameLaws.{frame-bounds}
 use Rattle.apdu.specs.Field.{Part, partInside, partBehind, Field, fieldsWith, fieldsBy, fieldsIn, fields}
 use Rattle.base.proofs.PartLaws.{part-part, part-rest, part-length}

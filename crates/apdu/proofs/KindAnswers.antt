@@ -6,7 +6,7 @@ use mathlib.Core.List.{List, [], _∷_}
 use types.Run.{OneOf}
 use denote.Enum.Declared.{tagOf}
 use native.Mathlib.Omega.{arith}
-use lib.Dec.{eqb, leb}
+use lib.Dec.{leb}
 use borrow.Author.Tests.{eq-eqb, ne-eqb, le-leb, lt-leb}
 use Rattle.base.proofs.Tests.{cond-true, cond-false, and-true, and-false-left, and-false-right}
 use Rattle.base.proofs.Keys.{no-key}
@@ -15,16 +15,15 @@ use Rattle.records.specs.Limits.{levels}
 use Rattle.ber.specs.declared.element.Frame.{Frame}
 use Rattle.ber.specs.declared.element.Frame.the-variants.{Of as FrameOf, NoFrame}
 use Rattle.ber.specs.Header.{constructed}
-use Rattle.ber.specs.Rule.{contentRule}
 use Rattle.ber.specs.Element.{insideOf, contentsOf, makesElement, wellFormed, frameOf}
-use Rattle.ber.proofs.ElementAnswers.{constructed-rule}
+use Rattle.ber.proofs.RuleLaws.{constructed-rule}
 use Rattle.ber.proofs.FrameLaws.{framed, well-formed-framed}
 use Rattle.apdu.specs.declared.Number.{Number}
 use Rattle.apdu.specs.declared.Number.the-variants.{Absent}
 use Rattle.apdu.specs.declared.Parsed.{Parsed}
 use Rattle.apdu.specs.declared.Parsed.the-variants.{BadlyStructured, Unrecognized, Mistyped, Invoke, Result, Error, InvokeReject, ResultReject, ErrorReject, GeneralReject}
 use Rattle.apdu.proofs.Parsed as parsed
-use Rattle.apdu.specs.Field.{Part, partOf, Field, fields}
+use Rattle.apdu.specs.Field.{partOf, Field, fields}
 use Rattle.apdu.specs.Parse.{Apdu, badlyStructured, unrecognized, mistyped, rejectOf, withId, byKind, parseAt, parse}
 use Rattle.apdu.specs.Reading.{readParsed}
 use Rattle.apdu.specs.Steps.{guarded, unsettled, settle, Reading}

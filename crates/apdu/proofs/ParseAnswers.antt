@@ -1,14 +1,13 @@
 -- What each way through the code that parses answers.
-use Prim.Native.Nat.{ℕ, _+_, _-_, _/_, _%_, _<_, _≤_}
+use Prim.Native.Nat.{ℕ, _+_, _-_, _≤_}
 use mathlib.Core.Path.{_≡_, refl, sym, ap, _∙_}
-use mathlib.Core.Bool.{Bool, true, false, cond, _&&_, false≢true}
+use mathlib.Core.Bool.{Bool, true, false, cond}
 use mathlib.Core.List.{List, [], _∷_}
-use mathlib.Core.Option.{Option, some, none}
+use mathlib.Core.Option.{none}
 use native.Mathlib.Omega.{arith}
 use lib.ListN.{length, getD}
-use lib.Dec.{eqb, leb}
-use borrow.Author.Tests.{eq-eqb, ne-eqb, le-leb, lt-leb}
-use Rattle.base.proofs.Tests.{cond-elim, cond-true, cond-false, and-true, and-false-left, and-false-right}
+use borrow.Author.Tests.{eq-eqb, ne-eqb}
+use Rattle.base.proofs.Tests.{cond-true, cond-false}
 use Rattle.base.proofs.PartLaws.{part-part, part-length}
 use Rattle.base.specs.Octets.{part}
 use Rattle.records.specs.Limits.{levels}
@@ -23,15 +22,14 @@ use Rattle.apdu.specs.declared.Number.{Number}
 use Rattle.apdu.specs.declared.Number.the-variants.{Of, Absent}
 use Rattle.apdu.specs.declared.field.Field.{Field as FieldPlaces}
 use Rattle.apdu.specs.declared.field.Field.the-variants.{At as FieldAt, Other}
-use Rattle.apdu.specs.declared.Parsed.{Parsed}
 use Rattle.apdu.specs.Field.{Part, partOf, Field, fields}
-use Rattle.apdu.specs.Parse.{Apdu, badlyStructured, unrecognized, mistyped, result, numberUnder, Coded, uncoded, coded, codedOf, linkedOf, invokeBehind, resultWith, resultBehind, errorBehind, rejectOf, behindId, withId, byKind, parseAt, parse}
-use Rattle.apdu.specs.Reading.{readParsed}
+use Rattle.apdu.specs.Parse.{Apdu, mistyped, result, numberUnder, uncoded, codedOf, linkedOf, invokeBehind, resultWith, resultBehind, errorBehind, behindId, withId}
 use Rattle.apdu.specs.Steps.{fieldAt, movedFrame, frameAt, guarded, codedIn, invokeIn, isNumber, idIn}
 use Rattle.apdu.proofs.FieldLaws.{fields-none}
 use Rattle.apdu.proofs.FieldHead.{Head, fields-head}
-use Rattle.apdu.proofs.FieldAnswers.{fieldFrom, none-left, all-wrong, whole-left, not-whole, other-field, field-listed}
-use Rattle.apdu.proofs.CodedAnswers.{constructed-not, right-passed}
+use Rattle.apdu.proofs.FieldAnswers.{none-left, all-wrong, whole-left, not-whole, other-field, field-listed}
+use Rattle.ber.proofs.RuleLaws.{constructed-not}
+use Rattle.apdu.proofs.CodedAnswers.{right-passed}
 
 -- ---- A2: what fills the octets from a place on
 

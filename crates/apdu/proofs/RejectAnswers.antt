@@ -23,7 +23,8 @@ use Rattle.apdu.specs.Steps.{fieldAt, guarded, isNumber, RejectRight}
 use Rattle.apdu.proofs.FieldLaws.{fields-none}
 use Rattle.apdu.proofs.FieldHead.{Head, fields-head}
 use Rattle.apdu.proofs.FieldAnswers.{fieldFrom, none-left, all-wrong, other-field, field-listed, field-others, primitive-passed}
-use Rattle.apdu.proofs.CodedAnswers.{constructed-not, right-passed, right-not}
+use Rattle.ber.proofs.RuleLaws.{constructed-not}
+use Rattle.apdu.proofs.CodedAnswers.{right-passed, right-not}
 
 -- a problem, by its kind and its contents
 module _ (t : ℕ) (c : List ℕ) where

@@ -1,20 +1,18 @@
--- What each way through the code of element, contents and well_formed answers.
+-- What each way through the code of element answers.
 use mathlib.Core.Path.{_≡_, refl, sym, ap, subst, _∙_}
 use mathlib.Core.Bool.{Bool, true, false, cond, and-true}
-use mathlib.Core.List.{List, [], _∷_}
-use mathlib.Core.Option.{some, none}
+use mathlib.Core.List.{List}
 use Prim.Native.Nat.{ℕ, zero, suc, _+_, _-_, _/_, _%_, _<_, _≤_}
 use native.Mathlib.Omega.{arith}
-use lib.ListN.{length, getD, take, drop, length-take, length-drop, drop-of-length-le}
+use lib.ListN.{length, getD, take, drop, length-take, length-drop}
 use lib.Seq.{drop-drop}
 use lib.Dec.{leb, eqb}
-use borrow.Author.Tests.{eq-eqb, ne-eqb, eqb-true, le-leb, lt-leb}
-use Rattle.base.proofs.Tests.{cond-elim, cond-elim₂, cond-true, cond-false}
+use borrow.Author.Tests.{eq-eqb, ne-eqb, le-leb, lt-leb}
+use Rattle.base.proofs.Tests.{cond-true, cond-false}
 use Rattle.base.proofs.Lists.{rest}
 use Rattle.base.specs.Octets.{part}
 use Rattle.ber.specs.declared.header.Length.{Length}
 use Rattle.ber.specs.declared.header.Length.the-variants.{Is, Indefinite, NoLength}
-use Rattle.ber.specs.declared.header.Header.{Header}
 use Rattle.ber.specs.declared.header.Header.the-variants.{At, Open, NoHeader}
 use Rattle.ber.specs.declared.element.Checked.{Checked}
 use Rattle.ber.specs.declared.element.Checked.the-variants.{Good, NoElement}
@@ -22,19 +20,12 @@ use Rattle.ber.specs.declared.element.Inside.{Inside}
 use Rattle.ber.specs.declared.element.Inside.the-variants.{Ended, Closed, Broken}
 use Rattle.ber.specs.Header.{identifierOctets, constructed, lengthOf, headerWith, headerOf}
 use Rattle.ber.specs.Rule.{contentRule}
-use Rattle.ber.specs.Element.{closes, behind, elementsIn, fillsAll, closedBehind, makesElement, elementWith, elementOf, insideOf, contentsOf, fills, size, wellFormed}
+use Rattle.ber.specs.Element.{elementsIn, fillsAll, closedBehind, makesElement, elementWith, elementOf, insideOf, contentsOf}
 use Rattle.ber.specs.Steps.{filledElement, behindLength, elementBehind}
-use Rattle.ber.proofs.HeaderLaws.{LengthWithin, length-within, identifier-within}
-use Rattle.ber.proofs.ElementLaws.{good-size, fault-size, Reaches, inside-reaches, element-bounds, elements-fuel, elements-step, elements-fault, elements-closed, elements-end, not-closing, well-formed-size}
-
--- ---- what serves both
-
--- the rules are those of primitive elements
-pub constructed-rule : (id : ℕ) (c : List ℕ) → constructed id ≡ true → contentRule id c ≡ true
-unfolding constructed contentRule
-constructed-rule id c k =
-    let n : (t : ℕ) → (t / 32 % 2 ≡ 1 → ⊥) → eqb id t ≡ false = λ t z. ne-eqb id t (λ e. z (subst (λ (x : ℕ). x / 32 % 2 ≡ 1) e (eqb-true (id / 32 % 2) 1 k))) in
-    rw (n 0x01 (λ z. omega arith), n 0x02 (λ z. omega arith), n 0x0A (λ z. omega arith), n 0x05 (λ z. omega arith), n 0x06 (λ z. omega arith)) refl
+use Rattle.ber.proofs.HeaderLaws.{LengthWithin, length-within}
+use Rattle.ber.proofs.RuleLaws.{constructed-rule}
+use Rattle.ber.proofs.ElementBounds.{Reaches, inside-reaches}
+use Rattle.ber.proofs.ElementLaws.{elements-fuel}
 
 -- an answer counted from k octets before
 abbrev pub shifted : ℕ → Checked → Checked
@@ -166,7 +157,7 @@ behind-header d s k (Is n v) =
     go false = refl
 
 -- the element at the front of s, from its identifier of k octets on
-element-by : (d : ℕ) (s : List ℕ) (k : ℕ) → identifierOctets s ≡ k → (k ≡ 0 → ⊥) → elementOf d s ≡ shifted k (elementBehind d (getD s 0 0) (drop k s))
+pub element-by : (d : ℕ) (s : List ℕ) (k : ℕ) → identifierOctets s ≡ k → (k ≡ 0 → ⊥) → elementOf d s ≡ shifted k (elementBehind d (getD s 0 0) (drop k s))
 unfolding elementOf elementBehind headerOf
 element-by zero s k q n = refl
 element-by (suc d) s k q n =
@@ -174,98 +165,7 @@ element-by (suc d) s k q n =
     (ap (λ (m : ℕ). cond (eqb m 0) NoHeader (headerWith s m (lengthOf (drop m s)))) q ∙ sym (cond-false NoHeader (headerWith s k (lengthOf (drop k s))) (ne-eqb k 0 n)))
     ∙ behind-header d s k (lengthOf (drop k s))
 
-element-headless : (d : ℕ) (s : List ℕ) → identifierOctets s ≡ 0 → elementOf d s ≡ NoElement
+pub element-headless : (d : ℕ) (s : List ℕ) → identifierOctets s ≡ 0 → elementOf d s ≡ NoElement
 unfolding elementOf elementWith headerOf
 element-headless zero s q = refl
 element-headless (suc d) s q = ap (elementWith (insideOf d) s) (sym (cond-true NoHeader (headerWith s (identifierOctets s) (lengthOf (drop (identifierOctets s) s))) (eq-eqb (identifierOctets s) 0 q)))
-
-behind-behind : (a n : ℕ) (i : Inside) → behind a (behind n i) ≡ behind (a + n) i
-unfolding behind
-behind-behind a n (Ended k) = let e : a + (n + k) ≡ a + n + k = omega arith in ap Ended e
-behind-behind a n (Closed k) = let e : a + (n + k) ≡ a + n + k = omega arith in ap Closed e
-behind-behind a n Broken = refl
-
-pub behind-none : (i : Inside) → i ≡ behind 0 i
-unfolding behind
-behind-none (Ended k) = let e : k ≡ 0 + k = omega arith in ap Ended e
-behind-none (Closed k) = let e : k ≡ 0 + k = omega arith in ap Closed e
-behind-none Broken = refl
-
--- ---- the loop: behind the octets up to `at`, with `left` more elements at most
-
-module _ (d most : ℕ) (s : List ℕ) (left at : ℕ) (same : elementsIn (elementOf d) most s ≡ behind at (elementsIn (elementOf d) left (drop at s))) where
-  found : {i j : Inside} → elementsIn (elementOf d) left (drop at s) ≡ i → j ≡ behind at i → j ≡ elementsIn (elementOf d) most s
-  found {i} {j} e w = w ∙ sym (same ∙ ap (behind at) e)
-
-  ended : elementsIn (elementOf d) left (drop at s) ≡ Ended 0 → Ended at ≡ elementsIn (elementOf d) most s
-  unfolding behind
-  ended e = let z : at ≡ at + 0 = omega arith in found e (ap Ended z)
-
-  pub loop-counted : left ≡ 0 → Ended at ≡ elementsIn (elementOf d) most s
-  unfolding elementsIn
-  loop-counted z = ended (ap (λ (k : ℕ). elementsIn (elementOf d) k (drop at s)) z)
-
-  pub loop-end : length s ≤ at → Ended at ≡ elementsIn (elementOf d) most s
-  loop-end h = ended (elements-end d left (drop at s) (omega (arith, length-drop at s)))
-
-  module _ (h : at < length s) (n : left ≡ 0 → ⊥) where
-    more : elementsIn (elementOf d) left (drop at s) ≡ elementsIn (elementOf d) (suc (left - 1)) (drop at s)
-    more = let e : left ≡ suc (left - 1) = omega arith in ap (λ (k : ℕ). elementsIn (elementOf d) k (drop at s)) e
-
-    pub loop-closed : closes (part s at (length s)) ≡ true → Closed at ≡ elementsIn (elementOf d) most s
-    unfolding behind
-    loop-closed z =
-        let e : at ≡ at + 0 = omega arith in
-        found (more ∙ elements-closed d (left - 1) (drop at s) (ap closes (sym (rest s at)) ∙ z)) (ap Closed e)
-
-    broken : closes (part s at (length s)) ≡ false → elementOf d (part s at (length s)) ≡ NoElement → Broken ≡ elementsIn (elementOf d) most s
-    unfolding behind
-    broken z e =
-        found (more ∙ elements-fault d (left - 1) (drop at s) (omega (arith, length-drop at s)) (ap closes (sym (rest s at)) ∙ z) (ap (elementOf d) (sym (rest s at)) ∙ e)) refl
-
-    pub loop-refused : identifierOctets (part s at (length s)) ≡ 0 → closes (part s at (length s)) ≡ false → Broken ≡ elementsIn (elementOf d) most s
-    loop-refused q z = broken z (element-headless d (part s at (length s)) q)
-
-    module _ (k : ℕ) (q : k ≡ identifierOctets (part s at (length s))) (m : k ≡ 0 → ⊥) (r : Checked)
-        (e : r ≡ elementBehind d (getD (part s at (length s)) 0 0) (part (part s at (length s)) k (length (part s at (length s))))) where
-      here : elementOf d (part s at (length s)) ≡ shifted k r
-      here = element-by d (part s at (length s)) k (sym q) m ∙ ap (shifted k) (sym (e ∙ ap (elementBehind d (getD (part s at (length s)) 0 0)) (rest (part s at (length s)) k)))
-
-      pub loop-wrong : r ≡ NoElement → Broken ≡ elementsIn (elementOf d) most s
-      loop-wrong w = broken (not-closing (part s at (length s)) (λ z. m (q ∙ z))) (here ∙ ap (shifted k) w)
-
-      module _ (l : ℕ) (w : r ≡ Good l) where
-        good : elementOf d (drop at s) ≡ Good (k + l)
-        good = ap (elementOf d) (sym (rest s at)) ∙ here ∙ ap (shifted k) w
-
-        pub loop-room : (2 ≤ k + l) × (at + (k + l) ≤ length s)
-        loop-room = omega (arith, element-bounds d (drop at s) (k + l) (good-size d (drop at s) (k + l) good), length-drop at s)
-
-        pub loop-step : elementsIn (elementOf d) most s ≡ behind (at + (k + l)) (elementsIn (elementOf d) (left - 1) (drop (at + (k + l)) s))
-        loop-step =
-            same ∙ ap (behind at) (more ∙ elements-step d (left - 1) (drop at s) (k + l) good)
-            ∙ behind-behind at (k + l) (elementsIn (elementOf d) (left - 1) (drop (k + l) (drop at s)))
-            ∙ ap (λ (c : List ℕ). behind (at + (k + l)) (elementsIn (elementOf d) (left - 1) c)) (drop-drop (k + l) at s)
-
--- ---- the whole input: the first element fills it
-
-pub one-element : (d : ℕ) (s : List ℕ) → 1 ≤ length s → (i : Inside) → i ≡ elementsIn (elementOf d) 1 s → fillsAll (length s) i ≡ wellFormed d s
-unfolding wellFormed fills fillsAll behind elementsIn
-one-element d s h i e = go (elementOf d s) refl
-  where
-    go : (r : Checked) → elementOf d s ≡ r → fillsAll (length s) i ≡ fills (length s) (size d s)
-    go (Good n) w =
-        let z : n + 0 ≡ n = omega arith in
-        ap (fillsAll (length s)) (e ∙ elements-step d 0 s n w ∙ ap Ended z) ∙ sym (ap (fills (length s)) (good-size d s n w))
-    go NoElement w = wrong (closes s) refl ∙ sym (ap (fills (length s)) (fault-size d s w))
-      where
-        wrong : (b : Bool) → closes s ≡ b → fillsAll (length s) i ≡ false
-        wrong true z = ap (fillsAll (length s)) (e ∙ elements-closed d 0 s z)
-        wrong false z = ap (fillsAll (length s)) (e ∙ elements-fault d 0 s h z w)
-
-pub empty-ill-formed : (d : ℕ) (s : List ℕ) → length s ≡ 0 → false ≡ wellFormed d s
-empty-ill-formed d s h = go (wellFormed d s) refl
-  where
-    go : (b : Bool) → wellFormed d s ≡ b → false ≡ b
-    go true e = absurd (omega (arith, element-bounds d s (length s) (well-formed-size d s e)))
-    go false e = refl

@@ -18,7 +18,7 @@ use Rattle.ber.specs.declared.element.Inside.the-variants.{Ended, Closed
 use Rattle.ber.specs.Header.{constructed, headerOf}
 use Rattle.ber.specs.Rule.{contentRule}
 use Rattle.ber.specs.Element.{closedBehind, makesElement, elementWith, elementOf, insideOf, contentsOf, size}
-use Rattle.ber.proofs.ElementLaws.{good-size, size-good}
+use Rattle.ber.proofs.ElementBounds.{good-size, size-good}
 
 pub record Definite (d : ℕ) (s : List ℕ) (n : ℕ) : Type 0 where
   pub id : ℕ

@@ -1,163 +1,27 @@
 -- Laws of elements and contents for callers: over `size`, `insideOf` and `contentsOf`, so that a richer answer of the check leaves them as they are.
 use mathlib.Core.Path.{_≡_, refl, sym, subst, ap, _∙_}
-use mathlib.Core.Bool.{Bool, true, false, cond, _&&_, false≢true}
+use mathlib.Core.Bool.{Bool, true, false, cond, false≢true}
 use mathlib.Core.List.{List, [], _∷_}
 use mathlib.Core.Option.{Option, some, none}
-use Prim.Native.Nat.{ℕ, zero, suc, _+_, _-_, _≤_, _<_}
+use Prim.Native.Nat.{ℕ, zero, suc, _+_, _-_, _≤_}
 use native.Mathlib.Omega.{arith}
-use lib.ListN.{length, getD, drop, length-drop}
-use lib.Dec.{leb, eqb}
-use borrow.Author.Tests.{eq-eqb, ne-eqb, eqb-true, le-leb, lt-leb, leb-true}
-use Rattle.base.proofs.Tests.{cond-elim, cond-true, cond-false, and-true, and-left, and-right, and-false-left, and-false-right, both-ways}
-use Rattle.base.specs.Octets.{part}
-use Rattle.ber.specs.declared.header.Header.{Header}
-use Rattle.ber.specs.declared.header.Header.the-variants.{At, Open, NoHeader}
+use lib.ListN.{length, drop, length-drop}
+use lib.Dec.{eqb}
+use borrow.Author.Tests.{eq-eqb, eqb-true}
+use Rattle.base.proofs.Tests.{cond-true, cond-false, both-ways}
 use Rattle.ber.specs.declared.element.Checked.{Checked}
 use Rattle.ber.specs.declared.element.Checked.the-variants.{Good, NoElement}
 use Rattle.ber.specs.declared.element.Inside.{Inside}
 use Rattle.ber.specs.declared.element.Inside.the-variants.{Ended, Closed, Broken}
-use Rattle.ber.specs.Header.{oneOf, identifierOctets, headerOf}
-use Rattle.ber.specs.Element.{closes, behind, behindFirst, elementsIn, fillsAll, closedBehind, makesElement, elementWith, elementOf, insideOf, contentsOf, sizeIn, size, fills, wellFormed}
-use Rattle.ber.proofs.HeaderLaws.{Bounded, header-bounded}
-
--- ---- the size and the answer of the check
-
-pub good-size : (d : ℕ) (s : List ℕ) (n : ℕ) → elementOf d s ≡ Good n → size d s ≡ some n
-unfolding size sizeIn
-good-size d s n e = ap sizeIn e
-
-pub fault-size : (d : ℕ) (s : List ℕ) → elementOf d s ≡ NoElement → size d s ≡ none
-unfolding size sizeIn
-fault-size d s e = ap sizeIn e
-
-pub size-good : (d : ℕ) (s : List ℕ) (n : ℕ) → size d s ≡ some n → elementOf d s ≡ Good n
-unfolding size sizeIn
-size-good d s n q = go (elementOf d s) refl q
-  where
-    go : (r : Checked) → elementOf d s ≡ r → sizeIn r ≡ some n → elementOf d s ≡ Good n
-    go (Good k) e x = cc
-    go NoElement e x = cc
-
--- ---- closing octets
-
-module _ (s : List ℕ) where
-  pub closing-short : length s < 2 → false ≡ closes s
-  unfolding closes
-  closing-short h = sym (and-false-left (leb 2 (length s)) _ (lt-leb 2 (length s) h))
-
-  pub closing-not : (getD s 0 0 ≡ 0 → ⊥) → false ≡ closes s
-  unfolding closes
-  closing-not n = sym (and-false-right (leb 2 (length s)) _ (and-false-left (eqb (getD s 0 0) 0) _ (ne-eqb (getD s 0 0) 0 n)))
-
-  pub closing-second : 2 ≤ length s → getD s 0 0 ≡ 0 → eqb (getD s 1 0) 0 ≡ closes s
-  unfolding closes
-  closing-second h e = rw (le-leb 2 (length s) h, eq-eqb (getD s 0 0) 0 e) refl
-
-  pub closing-length : closes s ≡ true → 2 ≤ length s
-  unfolding closes
-  closing-length e = leb-true 2 (length s) (and-left (leb 2 (length s)) _ e)
-
-  closing-first : closes s ≡ true → getD s 0 0 ≡ 0
-  unfolding closes
-  closing-first e = eqb-true (getD s 0 0) 0 (and-left _ _ (and-right (leb 2 (length s)) _ e))
-
--- identifier 00 is refused, so that no element starts as closing octets do
-closing-refused : (s : List ℕ) → closes s ≡ true → identifierOctets s ≡ 0
-unfolding identifierOctets oneOf
-closing-refused [] e = refl
-closing-refused (b ∷ s) e = rw (closing-first (b ∷ s) e) refl
-
-pub not-closing : (s : List ℕ) → (identifierOctets s ≡ 0 → ⊥) → closes s ≡ false
-not-closing s n = go (closes s) refl
-  where
-    go : (b : Bool) → closes s ≡ b → b ≡ false
-    go true e = absurd (n (closing-refused s e))
-    go false e = refl
-
-closing-headless : (s : List ℕ) → closes s ≡ true → headerOf s ≡ NoHeader
-unfolding headerOf
-closing-headless s e = sym (cond-true NoHeader _ (eq-eqb (identifierOctets s) 0 (closing-refused s e)))
-
-closing-none : (d : ℕ) (s : List ℕ) → closes s ≡ true → elementOf d s ≡ NoElement
-unfolding elementOf elementWith
-closing-none zero s e = refl
-closing-none (suc d) s e = ap (elementWith (insideOf d) s) (closing-headless s e)
-
-good-opens : (d : ℕ) (s : List ℕ) (n : ℕ) → elementOf d s ≡ Good n → closes s ≡ false
-good-opens d s n q = go (closes s) refl
-  where
-    go : (b : Bool) → closes s ≡ b → b ≡ false
-    go true e = let w = closing-none d s e in cc
-    go false e = refl
-
--- ---- what is found lies within the octets
-
-abbrev CheckedWithin : ℕ → Checked → Type 0
-CheckedWithin m NoElement = Unit
-CheckedWithin m (Good n) = (2 ≤ n) × (n ≤ m)
-
--- elements reach the end of m octets, or closing octets within them
-abbrev pub Reaches : ℕ → Inside → Type 0
-Reaches m (Ended n) = n ≡ m
-Reaches m (Closed n) = n + 2 ≤ m
-Reaches m Broken = Unit
-
-behind-reaches : (m n : ℕ) (i : Inside) → n ≤ m → Reaches (m - n) i → Reaches m (behind n i)
-unfolding behind
-behind-reaches m n (Ended k) h w = omega arith
-behind-reaches m n (Closed k) h w = omega arith
-behind-reaches m n Broken h w = tt
-
-first-reaches : (g : List ℕ → Inside) (s : List ℕ) (r : Checked) → CheckedWithin (length s) r → ((n : ℕ) → r ≡ Good n → Reaches (length (drop n s)) (g (drop n s)))
-    → Reaches (length s) (behindFirst g s r)
-unfolding behindFirst
-first-reaches g s NoElement w h = tt
-first-reaches g s (Good n) w h =
-    behind-reaches (length s) n (g (drop n s)) (w .1) (subst (λ (m : ℕ). Reaches m (g (drop n s))) (length-drop n s) (h n refl))
-
-elements-reach : (f : List ℕ → Checked) → ((s : List ℕ) → CheckedWithin (length s) (f s)) → (m : ℕ) (s : List ℕ) → length s ≤ m → Reaches (length s) (elementsIn f m s)
-unfolding elementsIn
-elements-reach f p zero [] h = refl
-elements-reach f p zero (b ∷ s) h = absurd (omega arith)
-elements-reach f p (suc m) [] h = refl
-elements-reach f p (suc m) (b ∷ s) h =
-    cond-elim (Reaches (suc (length s))) (closes (b ∷ s)) (Closed 0) _ (λ e. omega (arith, closing-length (b ∷ s) e))
-    (λ _. first-reaches (elementsIn f m) (b ∷ s) (f (b ∷ s)) (p (b ∷ s))
-    (λ n e. elements-reach f p m (drop n (b ∷ s)) (omega (arith, length-drop n (b ∷ s), subst (CheckedWithin (length (b ∷ s))) e (p (b ∷ s))))))
-
-closed-within : (m a : ℕ) (i : Inside) → 2 ≤ a → a ≤ m → Reaches (m - a) i → CheckedWithin m (closedBehind a i)
-unfolding closedBehind
-closed-within m a (Ended k) h o w = tt
-closed-within m a (Closed k) h o w = omega arith
-closed-within m a Broken h o w = tt
-
-with-within : (g : List ℕ → Inside) (s : List ℕ) (h : Header) → ((t : List ℕ) → Reaches (length t) (g t)) → Bounded s h → CheckedWithin (length s) (elementWith g s h)
-unfolding elementWith
-with-within g s NoHeader w b = tt
-with-within g s (At id a e) w b = cond-elim (CheckedWithin (length s)) (makesElement g id (part s a e)) (Good e) NoElement (λ _. omega arith) (λ _. tt)
-with-within g s (Open id a) w b =
-    closed-within (length s) a (g (drop a s)) (b .start) (b .within) (subst (λ (m : ℕ). Reaches m (g (drop a s))) (length-drop a s) (w (drop a s)))
-
-element-within : (d : ℕ) (s : List ℕ) → CheckedWithin (length s) (elementOf d s)
-unfolding elementOf
-element-within zero s = tt
-element-within (suc d) s = with-within (insideOf d) s (headerOf s) (λ t. elements-reach (elementOf d) (element-within d) (length t) t (omega arith)) (header-bounded s)
-
-pub inside-reaches : (d : ℕ) (s : List ℕ) → Reaches (length s) (insideOf d s)
-inside-reaches d s = elements-reach (elementOf d) (element-within d) (length s) s (omega arith)
-
-good-bounds : (d : ℕ) (s : List ℕ) (n : ℕ) → elementOf d s ≡ Good n → (2 ≤ n) × (n ≤ length s)
-good-bounds d s n p = subst (CheckedWithin (length s)) p (element-within d s)
-
-pub element-bounds : (d : ℕ) (s : List ℕ) (n : ℕ) → size d s ≡ some n → (2 ≤ n) × (n ≤ length s)
-element-bounds d s n p = good-bounds d s n (size-good d s n p)
+use Rattle.ber.specs.Element.{closes, foundBehind, behindFirst, elementsIn, fillsAll, elementOf, insideOf, contentsOf, size, fills, wellFormed}
+use Rattle.ber.proofs.ElementBounds.{good-size, size-good, closing-length, good-opens, Reaches, inside-reaches, good-bounds, element-bounds}
 
 -- ---- the bound on the count of elements does not matter beyond the octets
 
 first-same : (g h : List ℕ → Inside) (s : List ℕ) (r : Checked) → ((k : ℕ) → r ≡ Good k → g (drop k s) ≡ h (drop k s)) → behindFirst g s r ≡ behindFirst h s r
 unfolding behindFirst
 first-same g h s NoElement e = refl
-first-same g h s (Good k) e = ap (behind k) (e k refl)
+first-same g h s (Good k) e = ap (foundBehind k) (e k refl)
 
 pub elements-fuel : (d m n : ℕ) (s : List ℕ) → length s ≤ m → length s ≤ n → elementsIn (elementOf d) m s ≡ elementsIn (elementOf d) n s
 unfolding elementsIn
@@ -175,7 +39,7 @@ elements-fuel d (suc m) (suc n) (b ∷ s) h k =
 -- ---- at most so many elements, by the first
 
 module _ (d m : ℕ) where
-  pub elements-step : (s : List ℕ) (n : ℕ) → elementOf d s ≡ Good n → elementsIn (elementOf d) (suc m) s ≡ behind n (elementsIn (elementOf d) m (drop n s))
+  pub elements-step : (s : List ℕ) (n : ℕ) → elementOf d s ≡ Good n → elementsIn (elementOf d) (suc m) s ≡ foundBehind n (elementsIn (elementOf d) m (drop n s))
   unfolding elementsIn behindFirst
   elements-step [] n e = absurd (omega (arith, good-bounds d [] n e))
   elements-step (b ∷ s) n e = sym (cond-false (Closed 0) _ (good-opens d (b ∷ s) n e)) ∙ ap (behindFirst (elementsIn (elementOf d) m) (b ∷ s)) e
@@ -202,12 +66,12 @@ module _ (d : ℕ) (s : List ℕ) where
   as-many : (m : ℕ) → 1 ≤ length s → length s ≤ suc m → insideOf d s ≡ elementsIn (elementOf d) (suc m) s
   as-many m h k = elements-fuel d (length s) (suc m) s (omega arith) k
 
-  pub inside-cons : (n : ℕ) → size d s ≡ some n → insideOf d s ≡ behind n (insideOf d (drop n s))
+  pub inside-cons : (n : ℕ) → size d s ≡ some n → insideOf d s ≡ foundBehind n (insideOf d (drop n s))
   inside-cons n q =
       let e = size-good d s n q in
       let b = good-bounds d s n e in
       as-many (length s) (omega arith) (omega arith) ∙ elements-step d (length s) s n e
-      ∙ ap (behind n) (elements-fuel d (length s) (length (drop n s)) (drop n s) (omega (arith, length-drop n s)) (omega arith))
+      ∙ ap (foundBehind n) (elements-fuel d (length s) (length (drop n s)) (drop n s) (omega (arith, length-drop n s)) (omega arith))
 
   pub inside-closed : closes s ≡ true → insideOf d s ≡ Closed 0
   inside-closed z = as-many (length s) (omega (arith, closing-length s z)) (omega arith) ∙ elements-closed d (length s) s z
@@ -217,8 +81,8 @@ module _ (d : ℕ) (s : List ℕ) where
 
 -- ---- walking contents
 
-fills-behind : (m n : ℕ) (i : Inside) → n ≤ m → fillsAll m (behind n i) ≡ fillsAll (m - n) i
-unfolding fillsAll behind
+fills-behind : (m n : ℕ) (i : Inside) → n ≤ m → fillsAll m (foundBehind n i) ≡ fillsAll (m - n) i
+unfolding fillsAll foundBehind
 fills-behind m n (Ended k) h =
     both-ways (eqb (n + k) m) (eqb k (m - n)) (λ e. eq-eqb k (m - n) (omega (arith, eqb-true (n + k) m e))) (λ e. eq-eqb (n + k) m (omega (arith, eqb-true k (m - n) e)))
 fills-behind m n (Closed k) h = refl
@@ -263,10 +127,10 @@ pub record Later (d : ℕ) (s : List ℕ) (k : ℕ) : Type 0 where
   pub sum : k ≡ n + left
 
 pub closed-first : {P : Type 0} (d : ℕ) (s : List ℕ) (k : ℕ) → insideOf d s ≡ Closed k → (closes s ≡ true → k ≡ 0 → P) → (Later d s k → P) → P
-unfolding behind
+unfolding foundBehind
 closed-first {P} d s k q now later = start (closes s) refl
   where
-    next : (n : ℕ) → elementOf d s ≡ Good n → (i : Inside) → insideOf d (drop n s) ≡ i → behind n i ≡ Closed k → P
+    next : (n : ℕ) → elementOf d s ≡ Good n → (i : Inside) → insideOf d (drop n s) ≡ i → foundBehind n i ≡ Closed k → P
     next n e (Ended l) u x = let z : _≡_ {A = ℕ} 0 1 = cc in absurd (omega arith)
     next n e (Closed l) u x = later (record { n = n; left = l; element = good-size d s n e; others = u; sum = sym (cc) })
     next n e Broken u x = let z : _≡_ {A = ℕ} 0 1 = cc in absurd (omega arith)

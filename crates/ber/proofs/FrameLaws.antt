@@ -1,41 +1,39 @@
 -- Octets that start and end as one element does: where their contents stand, and that they are one element just where these contents make one.
 use mathlib.Core.Path.{_≡_, refl, sym, ap, subst, _∙_}
 use mathlib.Core.Logic.{⊎-elim}
-use mathlib.Core.Bool.{Bool, true, false, cond, _&&_, and-true, and-false, false≢true}
+use mathlib.Core.Bool.{Bool, true, false, cond, _&&_, false≢true}
 use mathlib.Core.List.{List, [], _∷_, _++_, append-nil}
-use mathlib.Core.Option.{Option, some, none}
 use Prim.Native.Nat.{ℕ, zero, suc, _+_, _-_, _≤_, _<_}
 use native.Mathlib.Omega.{arith}
-use lib.ListN.{length, getD, take, drop, length-take, length-drop, length-append, take-append-drop}
+use lib.ListN.{length, take, drop, length-take, length-drop, take-append-drop}
 use lib.Seq.{drop-drop, drop-append-le, length-take-le}
 use lib.Dec.{leb, eqb}
-use borrow.Author.Tests.{eq-eqb, ne-eqb, eqb-true, le-leb, lt-leb, leb-true}
+use borrow.Author.Tests.{eq-eqb, ne-eqb, le-leb, lt-leb, leb-true}
 use Rattle.base.proofs.Tests.{cond-elim, cond-true, cond-false, and-true as both-true, and-left, and-right, and-false-left, and-false-right, both-ways}
 use Rattle.base.proofs.PartLaws.{drop-take}
 use Rattle.base.proofs.Lists.{rest}
 use Rattle.base.specs.Octets.{part}
 use Rattle.ber.specs.declared.header.Header.{Header}
 use Rattle.ber.specs.declared.header.Header.the-variants.{At, Open, NoHeader}
-use Rattle.ber.specs.declared.element.Checked.{Checked}
 use Rattle.ber.specs.declared.element.Checked.the-variants.{Good, NoElement}
-use Rattle.ber.specs.declared.element.Inside.{Inside}
-use Rattle.ber.specs.declared.element.Inside.the-variants.{Ended, Closed, Broken}
+use Rattle.ber.specs.declared.element.Inside.the-variants.{Closed}
 use Rattle.ber.specs.declared.element.Frame.{Frame}
 use Rattle.ber.specs.declared.element.Frame.the-variants.{Of, NoFrame}
-use Rattle.ber.specs.Header.{constructed, headerOf}
-use Rattle.ber.specs.Element.{closes, behind, closedBehind, makesElement, elementWith, elementOf, insideOf, contentsOf, sizeIn, size, fills, wellFormed, frameWith, frameOf}
-use Rattle.ber.proofs.HeaderLaws.{Bounds, header-bounds, OpenBounds, open-bounds}
+use Rattle.ber.specs.Header.{headerOf}
+use Rattle.ber.specs.Element.{closes, foundBehind, makesElement, elementWith, elementOf, insideOf, contentsOf, sizeIn, size, fills, wellFormed, frameWith, frameOf}
+use Rattle.ber.proofs.HeaderLaws.{Bounds, header-bounds, open-bounds}
 use Rattle.ber.proofs.HeaderFacts.{header-prefix}
-use Rattle.ber.proofs.ElementLaws.{good-size, fault-size, Reaches, inside-reaches, element-bounds, inside-cons, inside-closed, contents-none, contents-cons, First, contents-first, Later, closed-first, well-formed-size, size-well-formed}
+use Rattle.ber.proofs.ElementBounds.{Reaches, inside-reaches, element-bounds}
+use Rattle.ber.proofs.ElementLaws.{inside-cons, inside-closed, contents-none, contents-cons, First, contents-first, closed-first, well-formed-size, size-well-formed}
 use Rattle.ber.proofs.ElementFacts.{Indefinite, element-facts, indefinite-made}
-use Rattle.ber.proofs.ElementAnswers.{constructed-rule}
+use Rattle.ber.proofs.RuleLaws.{constructed-rule}
 use Rattle.ber.proofs.Locality.{element-prefix, element-append}
 
 -- ---- elements and then closing octets
 
 -- contents behind which closing octets stand are closed there; m bounds their octets
 closed-behind : (d m : ℕ) (c r : List ℕ) → length c ≤ m → contentsOf d c ≡ true → closes r ≡ true → insideOf d (c ++ r) ≡ Closed (length c)
-unfolding behind
+unfolding foundBehind
 closed-behind d zero [] r h q z = inside-closed d r z
 closed-behind d zero (b ∷ c) r h q z = absurd (omega arith)
 closed-behind d (suc m) [] r h q z = inside-closed d r z
@@ -44,8 +42,8 @@ closed-behind d (suc m) (b ∷ c) r h q z =
     let o = element-bounds d (b ∷ c) (f .n) (f .element) in
     let e : f .n + length (drop (f .n) (b ∷ c)) ≡ length (b ∷ c) = omega (arith, length-drop (f .n) (b ∷ c)) in
     inside-cons d ((b ∷ c) ++ r) (f .n) (element-append d (b ∷ c) r (f .n) (f .element))
-    ∙ ap (λ (l : List ℕ). behind (f .n) (insideOf d l)) (drop-append-le (f .n) (b ∷ c) r (o .1))
-    ∙ ap (behind (f .n)) (closed-behind d m (drop (f .n) (b ∷ c)) r (omega (arith, length-drop (f .n) (b ∷ c))) (f .others) z)
+    ∙ ap (λ (l : List ℕ). foundBehind (f .n) (insideOf d l)) (drop-append-le (f .n) (b ∷ c) r (o .1))
+    ∙ ap (foundBehind (f .n)) (closed-behind d m (drop (f .n) (b ∷ c)) r (omega (arith, length-drop (f .n) (b ∷ c))) (f .others) z)
     ∙ ap Closed e
 
 -- what stands before the first closing octets is contents; m bounds the octets

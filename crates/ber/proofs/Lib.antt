@@ -2,14 +2,18 @@ pub mod NumberLaws
 pub mod HeaderLaws
 mod HeaderAnswers
 mod RuleAnswers
+pub mod RuleLaws
 pub mod HeaderFacts
+pub mod ElementBounds
 pub mod ElementLaws
 pub mod ElementFacts
 pub mod Locality
-pub mod ElementAnswers
+mod ElementAnswers
+mod ContentsAnswers
 pub mod FrameLaws
-pub mod ElementOctets
 mod IntegerAnswers
 pub mod IntegerLaws
 pub mod LengthLaws
+pub mod ElementOctets
 pub mod OutputLaws
+pub mod Witness

@@ -6,9 +6,8 @@ use mathlib.Core.List.{List, [], _∷_, _++_, append-nil}
 use mathlib.Core.Option.{Option, some}
 use Prim.Native.Nat.{ℕ, zero, suc, _+_, _-_, _≤_}
 use native.Mathlib.Omega.{arith}
-use lib.ListN.{length, getD, take, drop, length-append, length-drop, take-append-drop, List·getD-append}
+use lib.ListN.{length, take, drop, length-append, length-drop, take-append-drop, List·getD-append}
 use lib.Seq.{take-append-le, drop-append-le, length-take-le}
-use lib.Dec.{leb}
 use borrow.Author.Tests.{le-leb}
 use Rattle.base.proofs.Tests.{cond-elim₂}
 use Rattle.base.specs.Octets.{part}
@@ -18,10 +17,11 @@ use Rattle.ber.specs.declared.element.Inside.{Inside}
 use Rattle.ber.specs.declared.element.Inside.the-variants.{Ended, Closed, Broken}
 use Rattle.ber.specs.Header.{constructed}
 use Rattle.ber.specs.Rule.{contentRule}
-use Rattle.ber.specs.Element.{closes, behind, behindFirst, elementsIn, fillsAll, elementOf, insideOf, contentsOf, size, wellFormed}
+use Rattle.ber.specs.Element.{closes, foundBehind, behindFirst, elementsIn, fillsAll, elementOf, insideOf, contentsOf, size, wellFormed}
 use Rattle.ber.proofs.HeaderLaws.{Bounds, header-bounds, open-bounds}
 use Rattle.ber.proofs.HeaderFacts.{header-prefix, open-prefix}
-use Rattle.ber.proofs.ElementLaws.{good-size, size-good, element-bounds, inside-cons, inside-closed, Later, closed-first, well-formed-size, size-well-formed}
+use Rattle.ber.proofs.ElementBounds.{good-size, size-good, element-bounds}
+use Rattle.ber.proofs.ElementLaws.{inside-cons, inside-closed, closed-first, well-formed-size, size-well-formed}
 use Rattle.ber.proofs.ElementFacts.{Definite, Indefinite, element-facts, definite-made, indefinite-made}
 
 -- ---- what follows does not matter
@@ -52,7 +52,7 @@ Prefix d = (p r t : List ℕ) (n : ℕ) → size d (p ++ r) ≡ some n → n ≤
 
 -- and so do elements up to closing octets; m bounds their octets
 inside-prefix : (d : ℕ) → Prefix d → (m : ℕ) (p r t : List ℕ) (k : ℕ) → length p ≤ m → insideOf d (p ++ r) ≡ Closed k → k + 2 ≤ length p → insideOf d (p ++ t) ≡ Closed k
-unfolding behind
+unfolding foundBehind
 inside-prefix d pre zero p r t k w q h = absurd (omega arith)
 inside-prefix d pre (suc m) p r t k w q h =
     closed-first d (p ++ r) k q
@@ -61,8 +61,8 @@ inside-prefix d pre (suc m) p r t k w q h =
     let b = element-bounds d (p ++ r) (f .n) (f .element) in
     let o : f .n ≤ length p = omega arith in
     inside-cons d (p ++ t) (f .n) (pre p r t (f .n) (f .element) o)
-    ∙ ap (λ (l : List ℕ). behind (f .n) (insideOf d l)) (drop-append-le (f .n) p t o)
-    ∙ ap (behind (f .n))
+    ∙ ap (λ (l : List ℕ). foundBehind (f .n) (insideOf d l)) (drop-append-le (f .n) p t o)
+    ∙ ap (foundBehind (f .n))
     (inside-prefix d pre m (drop (f .n) p) r t (f .left) (omega (arith, length-drop (f .n) p))
     (ap (insideOf d) (sym (drop-append-le (f .n) p r o)) ∙ f .others) (omega (arith, length-drop (f .n) p)))
     ∙ ap Closed (sym (f .sum)))
@@ -129,17 +129,17 @@ Kept Broken j = Unit
 Kept (Ended n) j = j ≡ Ended n
 Kept (Closed n) j = j ≡ Closed n
 
-behind-kept : (n : ℕ) (i j : Inside) → Kept i j → Kept (behind n i) (behind n j)
-unfolding behind
+behind-kept : (n : ℕ) (i j : Inside) → Kept i j → Kept (foundBehind n i) (foundBehind n j)
+unfolding foundBehind
 behind-kept n Broken j w = tt
-behind-kept n (Ended k) j w = ap (behind n) w
-behind-kept n (Closed k) j w = ap (behind n) w
+behind-kept n (Ended k) j w = ap (foundBehind n) w
+behind-kept n (Closed k) j w = ap (foundBehind n) w
 
 module _ (f g : List ℕ → Checked) (more : (s : List ℕ) (n : ℕ) → f s ≡ Good n → g s ≡ Good n) where
   first-kept : (u v : List ℕ → Inside) (s : List ℕ) (r : Checked) → ((n : ℕ) → Kept (u (drop n s)) (v (drop n s))) → f s ≡ r → Kept (behindFirst u s r) (behindFirst v s (g s))
   unfolding behindFirst
   first-kept u v s NoElement h e = tt
-  first-kept u v s (Good n) h e = subst (λ (r : Checked). Kept (behind n (u (drop n s))) (behindFirst v s r)) (sym (more s n e)) (behind-kept n (u (drop n s)) (v (drop n s)) (h n))
+  first-kept u v s (Good n) h e = subst (λ (r : Checked). Kept (foundBehind n (u (drop n s))) (behindFirst v s r)) (sym (more s n e)) (behind-kept n (u (drop n s)) (v (drop n s)) (h n))
 
   elements-kept : (m : ℕ) (s : List ℕ) → Kept (elementsIn f m s) (elementsIn g m s)
   unfolding elementsIn

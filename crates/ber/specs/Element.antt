@@ -24,14 +24,14 @@ unfoldable pub closes : List ℕ → Bool
 closes s = leb 2 (length s) && (eqb (getD s 0 0) 0x00 && eqb (getD s 1 0) 0x00)
 
 -- what was found behind k octets of elements
-unfoldable pub behind : ℕ → Inside → Inside
-behind k (Ended n) = Ended (k + n)
-behind k (Closed n) = Closed (k + n)
-behind k Broken = Broken
+unfoldable pub foundBehind : ℕ → Inside → Inside
+foundBehind k (Ended n) = Ended (k + n)
+foundBehind k (Closed n) = Closed (k + n)
+foundBehind k Broken = Broken
 
 unfoldable pub behindFirst : (List ℕ → Inside) → List ℕ → Checked → Inside
 behindFirst rest s NoElement = Broken
-behindFirst rest s (Good k) = behind k (rest (drop k s))
+behindFirst rest s (Good k) = foundBehind k (rest (drop k s))
 
 -- the elements from the front of s on, at most n of them, up to closing octets or the end; `first` checks the element at the front
 unfoldable pub elementsIn : (List ℕ → Checked) → ℕ → List ℕ → Inside

@@ -74,7 +74,7 @@ fn element(id: u8, s: &[u8], levels: usize) -> Checked
     match length_of(s) {
         Length::NoLength => Checked::NoElement,
         Length::Indefinite => {
-            if id / 32 % 2 != 1 {
+            if id / 32 % 2 == 0 {
                 return Checked::NoElement;
             }
             match contents(&s[1..], s.len(), levels - 1) {

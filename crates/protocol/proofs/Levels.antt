@@ -2,6 +2,7 @@
 -- the limits exactly where it has at most 4,096 octets and is well-formed with 16 levels. The laws validate `withinLimits`.
 use Prim.Native.Nat.{ℕ, zero, suc, _+_, _-_, _≤_, _<_, _^_}
 use mathlib.Core.Path.{_≡_, refl, sym, ap, _∙_}
+use mathlib.Core.Logic.{⊎-elim}
 use mathlib.Core.Bool.{Bool, true, false, _&&_}
 use mathlib.Core.List.{List, [], _∷_, _++_}
 use mathlib.Core.Option.{Option, some, none}
@@ -14,10 +15,13 @@ use Rattle.records.specs.declared.Code.{Code}
 use Rattle.records.specs.Limits.{octets, levels}
 use Rattle.ber.specs.declared.element.Checked.{Checked}
 use Rattle.ber.specs.declared.element.Checked.the-variants.{Good, NoElement}
-use Rattle.ber.specs.Header.{oneOf}
+use Rattle.ber.specs.declared.header.Header.the-variants.{At}
+use Rattle.ber.specs.Header.{oneOf, constructed, headerOf}
 use Rattle.ber.specs.Rule.{contentRule}
-use Rattle.ber.specs.Element.{constructed, elementOf, contentsOf, size, fills, wellFormed, elementOctets}
-use Rattle.ber.proofs.ElementLaws.{good-size, fault-size, element-bounds, contents-none, contents-cons, contents-fault, Element, element-facts, well-formed-size, size-well-formed}
+use Rattle.ber.specs.Element.{elementOf, contentsOf, size, fills, wellFormed, elementOctets}
+use Rattle.ber.proofs.ElementBounds.{good-size, fault-size, element-bounds}
+use Rattle.ber.proofs.ElementLaws.{contents-none, contents-cons, contents-fault, well-formed-size, size-well-formed}
+use Rattle.ber.proofs.ElementFacts.{Definite, Indefinite, element-facts}
 use Rattle.ber.proofs.ElementOctets.{element-octets-length, startOf}
 use Rattle.ber.proofs.Locality.{element-append, element-more}
 use Rattle.apdu.specs.declared.Number.{Number}
@@ -63,13 +67,20 @@ behind d e r f =
 -- a constructed element that was written is one where its contents are elements
 module _ (t : ℕ) (c : List ℕ) (g : Free t) (k : constructed t ≡ true) (h : length c < 2 ^ 32) where
   written-size : (d n : ℕ) → size d (elementOctets t c) ≡ some n → (n ≡ length (elementOctets t c)) × (contentsOf (d - 1) c ≡ true)
-  written-size d n q =
-      let f : Element d (elementOctets t c) n = element-facts d (elementOctets t c) n q in
-      let e = header-alone t c (g .one) h in
-      let a : f .id ≡ t = cc (f .header) in
-      let b : f .a ≡ startOf c = cc (f .header) in
-      let l : n ≡ length (elementOctets t c) = cc (f .header) in
-      (l, rw (a, k, b, l, part-alone t c (g .one) h) at (f .inside))
+  written-size d n q = ⊎-elim definite indefinite (element-facts d (elementOctets t c) n q)
+    where
+      e : headerOf (elementOctets t c) ≡ At t (startOf c) (length (elementOctets t c))
+      e = header-alone t c (g .one) h
+
+      definite : Definite d (elementOctets t c) n → (n ≡ length (elementOctets t c)) × (contentsOf (d - 1) c ≡ true)
+      definite f =
+          let a : f .id ≡ t = cc (f .header, e) in
+          let b : f .a ≡ startOf c = cc (f .header, e) in
+          let l : n ≡ length (elementOctets t c) = cc (f .header, e) in
+          (l, rw (a, k, b, l, part-alone t c (g .one) h) at (f .inside))
+
+      indefinite : Indefinite d (elementOctets t c) n → (n ≡ length (elementOctets t c)) × (contentsOf (d - 1) c ≡ true)
+      indefinite f = let z : _≡_ {A = ℕ} 0 1 = cc (f .header, e) in absurd (omega arith)
 
   well : (d : ℕ) → wellFormed (suc d) (elementOctets t c) ≡ contentsOf d c
   well d = go (contentsOf d c) refl

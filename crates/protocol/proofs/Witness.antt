@@ -53,6 +53,15 @@ tableS =
     ∷ 0x00 ∷ 0x00 ∷ 0x00 ∷ 0x07 ∷ 0x05 ∷ 0x02 ∷ 0x00 ∷ 0x00
     ∷ []
 
+-- the same as tableO, but argument and result of type 30
+abbrev tableP : List ℕ
+tableP =
+    0x00 ∷ 0x01 ∷ 0x00 ∷ 0x10 ∷ 0x00 ∷ 0x02 ∷ 0x00 ∷ 0x18 ∷ 0x00 ∷ 0x01 ∷ 0x00 ∷ 0x24 ∷ 0x00 ∷ 0x00 ∷ 0x00 ∷ 0x28
+    ∷ 0x00 ∷ 0x00 ∷ 0x00 ∷ 0x07 ∷ 0x02 ∷ 0x30 ∷ 0x30 ∷ 0x02
+    ∷ 0x00 ∷ 0x00 ∷ 0x00 ∷ 0x01 ∷ 0x00 ∷ 0x00 ∷ 0x00 ∷ 0x00 ∷ 0x00 ∷ 0x02 ∷ 0x00 ∷ 0x00
+    ∷ 0x00 ∷ 0x00 ∷ 0x00 ∷ 0x00
+    ∷ []
+
 -- ---- calls
 
 abbrev seven : Code
@@ -66,6 +75,13 @@ three = 0x02 ∷ 0x01 ∷ 0x03 ∷ []
 
 abbrev zero02 : List ℕ
 zero02 = 0x02 ∷ 0x01 ∷ 0x00 ∷ []
+
+-- an indefinite length, closed and not
+abbrev closed30 : List ℕ
+closed30 = 0x30 ∷ 0x80 ∷ 0x02 ∷ 0x01 ∷ 0x05 ∷ 0x00 ∷ 0x00 ∷ []
+
+abbrev open30 : List ℕ
+open30 = 0x30 ∷ 0x80 ∷ 0x02 ∷ 0x01 ∷ 0x05 ∷ []
 
 abbrev ask : ℕ → Event
 ask i = at kiosk (invoke i seven Absent three 100)
@@ -143,6 +159,14 @@ linked =
 abbrev silent : List Event
 silent = ask 1 ∷ hear 1 ∷ ask 1 ∷ hear 1 ∷ []
 
+-- a value of an indefinite length is carried as it was given, and is shown; one that is not closed is not sent
+abbrev indefinite : List Event
+indefinite =
+    at kiosk (invoke 1 seven Absent closed30 100)
+    ∷ at controller (receive (encodeInvoke 1 Absent seven (some closed30)) 11)
+    ∷ giveResult 1 open30 ∷ giveResult 1 closed30 ∷ getResult 1 (some closed30)
+    ∷ []
+
 -- an id asked twice: the repeat of the first answer is taken for the second
 abbrev reused : List Event
 reused = ask 1 ∷ hear 1 ∷ giveResult 1 zero02 ∷ getResult 1 (some zero02) ∷ ask 1 ∷ getResult 1 (some zero02) ∷ []
@@ -175,6 +199,7 @@ runs =
     ∷ record { atKiosk = tableO; atController = tableN; events = spared }
     ∷ record { atKiosk = tableL; atController = tableL; events = linked }
     ∷ record { atKiosk = tableS; atController = tableS; events = silent }
+    ∷ record { atKiosk = tableP; atController = tableP; events = indefinite }
     ∷ record { atKiosk = tableO; atController = tableN; events = reused }
     ∷ record { atKiosk = tableO; atController = tableN; events = cramped }
     ∷ record { atKiosk = tableO; atController = tableN; events = forged }
@@ -197,6 +222,7 @@ told =
     ∷ record { refusals = none ∷ none ∷ none ∷ none ∷ none ∷ some (rejecting (Of 1) 0x82 0) ∷ none ∷ none ∷ none ∷ none ∷ []; shown = 1 ∷ [] }
     ∷ record { refusals = none ∷ none ∷ none ∷ none ∷ []; shown = [] }
     ∷ record { refusals = none ∷ none ∷ none ∷ none ∷ []; shown = [] }
+    ∷ record { refusals = none ∷ none ∷ some (plain 9) ∷ none ∷ none ∷ []; shown = 1 ∷ [] }
     ∷ record { refusals = none ∷ none ∷ none ∷ none ∷ none ∷ none ∷ []; shown = 1 ∷ 1 ∷ [] }
     ∷ record { refusals = none ∷ none ∷ none ∷ some (plain 2) ∷ []; shown = [] }
     ∷ record { refusals = none ∷ none ∷ []; shown = 1 ∷ [] }

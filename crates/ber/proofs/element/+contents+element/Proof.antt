@@ -1,14 +1,14 @@
 -- `element` and `contents` call each other. Both measures are the octets left: `contents` hands on those behind an identifier, `element` those behind a length.
-use mathlib.Core.Path.{_≡_, refl, sym, _∙_, ap}
+use mathlib.Core.Path.{_≡_, sym, _∙_, ap}
 use native.Mathlib.Omega.{arith}
 use borrow.Author.Needs.{needs}
 use lib.ListN.{length, take, drop, length-take, length-drop}
 use Prim.Native.Nat.{ℕ, _<_, _≤_, _+_, _-_}
 use Rattle.base.proofs.Lists.{rest}
-use Rattle.ber.specs.declared.element.Checked.the-variants.{Good}
-use Rattle.ber.specs.Element.{behind, closedBehind, elementsIn, elementOf}
+use Rattle.ber.specs.Element.{foundBehind, closedBehind, elementsIn, elementOf}
 use Rattle.ber.proofs.HeaderLaws.{identifier-within}
-use Rattle.ber.proofs.ElementAnswers.{behind-none, behind-no-level, behind-no-length, open-room, closed-room, behind-open-primitive, behind-open, behind-closed, definite-room, behind-cut, behind-primitive, behind-definite, loop-counted, loop-end, loop-closed, loop-refused, loop-wrong, loop-room, loop-step}
+use Rattle.ber.proofs.ElementAnswers.{behind-no-level, behind-no-length, open-room, closed-room, behind-open-primitive, behind-open, behind-closed, definite-room, behind-cut, behind-primitive, behind-definite}
+use Rattle.ber.proofs.ContentsAnswers.{behind-none, loop-counted, loop-end, loop-closed, loop-refused, loop-wrong, loop-room, loop-step}
 use borrow.Fn.Kinds.{In}
 use borrow.Fn.PlainCycle.{Measures, is, falls, and}
 use Rattle.ber.proofs.element.contents.Reads as contents
@@ -55,7 +55,7 @@ element-calls t =
 -- what is left decides
 abbrev contents-Inv-loop : contents-lts.InvT-loop
 contents-Inv-loop s most levels left₀ at₀ left at =
-    (at ≤ length s) × (elementsIn (elementOf levels) most s ≡ behind at (elementsIn (elementOf levels) left (drop at s)))
+    (at ≤ length s) × (elementsIn (elementOf levels) most s ≡ foundBehind at (elementsIn (elementOf levels) left (drop at s)))
 
 abbrev contents-μ-loop : contents-lts.MeasureT-loop
 contents-μ-loop s most levels left₀ at₀ left at = length s - at
@@ -138,8 +138,7 @@ contents-loop-again t c =
     let len = c .before in let element = len .before .before in let if2 = element .before .before .before in let ident = if2 .before in
     let if1 = ident .before .before in let loop = if1 .before .before in
     let room = loop-room _ _ _ _ _ (loop .loop .inv .1) (omega arith) (if1 .if1 .left) _ (ident .identifier-octets .ensures) (if2 .if2 .left) _
-    (element .element .ensures) _ (len .len .given .1) in
-    (
+    (element .element .ensures) _ (len .len .given .1) in (
       omega arith,
       loop-step _ _ _ _ _ (loop .loop .inv .1) (omega arith) (if1 .if1 .left) _ (ident .identifier-octets .ensures) (if2 .if2 .left) _
           (element .element .ensures) _ (len .len .given .1),
@@ -154,7 +153,7 @@ element-returns t c = behind-no-level _ _ _ (c .if1 .taken)
 element-returns-2 : (t : ℕ) → element-lts.Need-returns-2 (element-calls t) (element-at t) element.Post
 element-returns-2 t c =
     let length-of = c .before .before .before in
-    behind-open-primitive _ _ _ _ (length-of .before .if1 .left) (length-of .length-of .ensures) (cc) (c .if2 .taken)
+    behind-open-primitive _ _ _ _ (length-of .before .if1 .left) (length-of .length-of .ensures) (cc) (omega arith)
 
 element-sub-contents : (t : ℕ) → element-lts.Need-sub-contents (element-calls t) (element-at t) element.Post
 element-sub-contents t c =
@@ -255,21 +254,21 @@ element-returns-5 t c =
 element-returns-6 : (t : ℕ) → element-lts.Need-returns-6 (element-calls t) (element-at t) element.Post
 element-returns-6 t c =
     let contents = c .before .before .before in let if2 = contents .before .before in let length-of = if2 .before .before .before in
-    behind-closed _ _ _ _ (length-of .before .if1 .left) (length-of .length-of .ensures) (cc) (if2 .if2 .left) _ (contents .contents .ensures) _ (c .before .len .given .1)
+    behind-closed _ _ _ _ (length-of .before .if1 .left) (length-of .length-of .ensures) (cc) (omega (arith, if2 .if2 .left)) _ (contents .contents .ensures) _ (c .before .len .given .1)
 
 element-returns-7 : (t : ℕ) → element-lts.Need-returns-7 (element-calls t) (element-at t) element.Post
 unfolding closedBehind
 element-returns-7 t c =
     let contents = c .before .before in let if2 = contents .before .before in let length-of = if2 .before .before .before in
     ap (closedBehind 1) (sym (c .enum-told3 .given .1))
-    ∙ behind-open _ _ _ _ (length-of .before .if1 .left) (length-of .length-of .ensures) (cc) (if2 .if2 .left) _ (contents .contents .ensures)
+    ∙ behind-open _ _ _ _ (length-of .before .if1 .left) (length-of .length-of .ensures) (cc) (omega (arith, if2 .if2 .left)) _ (contents .contents .ensures)
 
 element-returns-8 : (t : ℕ) → element-lts.Need-returns-8 (element-calls t) (element-at t) element.Post
 unfolding closedBehind
 element-returns-8 t c =
     let contents = c .before .before in let if2 = contents .before .before in let length-of = if2 .before .before .before in
     ap (closedBehind 1) (sym (c .enum-told4 .given .1))
-    ∙ behind-open _ _ _ _ (length-of .before .if1 .left) (length-of .length-of .ensures) (cc) (if2 .if2 .left) _ (contents .contents .ensures)
+    ∙ behind-open _ _ _ _ (length-of .before .if1 .left) (length-of .length-of .ensures) (cc) (omega (arith, if2 .if2 .left)) _ (contents .contents .ensures)
 
 element-returns-9 : (t : ℕ) → element-lts.Need-returns-9 (element-calls t) (element-at t) element.Post
 element-returns-9 t c =

@@ -3,7 +3,7 @@ use mathlib.Core.Path.{sym, ap, _∙_}
 use native.Mathlib.Omega.{arith}
 use borrow.Author.Needs.{needs}
 use Rattle.ber.specs.Element.{fillsAll}
-use Rattle.ber.proofs.ElementAnswers.{one-element, empty-ill-formed}
+use Rattle.ber.proofs.ContentsAnswers.{one-element, empty-ill-formed}
 use Rattle.ber.proofs.element.well_formed.Statement.{statement}
 use Rattle.ber.proofs.element.well_formed.Tie as tie
 
