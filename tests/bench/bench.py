@@ -52,13 +52,18 @@ def element(identifier, contents):
     return bytes([identifier, 0x80 + len(octets)]) + octets + contents
 
 
-def nested(octets, deep):
+def closed(identifier, contents):
+    """The same with an indefinite length."""
+    return bytes([identifier, 0x80]) + contents + bytes(2)
+
+
+def nested(octets, deep, around=element):
     """An Invoke of so many octets; its argument is so many elements, one inside the other, the innermost full of integers."""
     def invoke(integers, rest):
         value = b"\x02\x01\x05" * integers + (element(4, bytes(rest - 2)) if rest >= 2 else b"")
         for _ in range(deep):
-            value = element(0x30, value)
-        return element(0xA1, b"\x02\x01\x05\x02\x01\x07" + value)
+            value = around(0x30, value)
+        return around(0xA1, b"\x02\x01\x05\x02\x01\x07" + value)
     for integers in range(octets // 3, -1, -1):
         for rest in (0, 2, 3, 4, 5):
             apdu = invoke(integers, rest)
@@ -91,6 +96,7 @@ def cases():
     for deep in (1, 8, 14):  # 14 make 16 levels, with the APDU around them and the integers inside
         for octets in (64, 512, 4096):
             yield case(f"receive {octets} octets, argument nested {deep}", WIDE, state(), frame(RECEIVE, nested(octets, deep), 11))
+        yield case(f"receive 4096 octets, nested {deep}, indefinite lengths", WIDE, state(), frame(RECEIVE, nested(4096, deep, closed), 11))
     records = [(i, i - 32) for i in range(32)]
     answer = bytes.fromhex("A20B02011F30060201FF02010C")
     yield case("32 + 32 records, full table: receive a result", FULL, state(own=records, peer=records), frame(RECEIVE, answer, 11))
