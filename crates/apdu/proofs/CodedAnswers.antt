@@ -46,31 +46,36 @@ number-shortest t identifier c w =
 
 module _ (d : ℕ) (s : List ℕ) (at end : ℕ) (r : FieldPlaces) (q : r ≡ fieldAt s at end) (id a n : ℕ) (w : r ≡ FieldAt id a n) (l : 1 ≤ d) where
   -- a field that is a right integer is an element
-  number-passed : (i : ℕ) → numberUnder 0x02 id (part s a n) ≡ Of i → {B : Type 0} (v : B) (F : List Field → B)
+  pub number-passed : (i : ℕ) → numberUnder 0x02 id (part s a n) ≡ Of i → {B : Type 0} (v : B) (F : List Field → B)
       → guarded d v (λ fs. F (fieldFrom s at id a n ∷ fs)) (partOf s n end) ≡ guarded d v F (partOf s at end)
   unfolding constructed contentRule
   number-passed i e {B} v F =
       let f = number-shortest 0x02 id (part s a n) i e in
       primitive-passed d s at end r q id a n w l (rw (f .0) refl) (rw (f .0) (f .1)) v F
 
-  -- a field that was found right, with the number that it says
-  module _ (m : Number) (e : m ≡ numberUnder 0x02 id (part s a n)) where
-    pub right-passed : cond (isNumber m) true (wellFormed d (part s at n)) ≡ true → {B : Type 0} (v : B) (F : List Field → B)
-        → guarded d v (λ fs. F (fieldFrom s at id a n ∷ fs)) (partOf s n end) ≡ guarded d v F (partOf s at end)
+  -- a field with the number m that it says, and whether it was found right
+  module _ (m : Number) (c : List ℕ) (x : c ≡ part s a n) (y : m ≡ numberUnder 0x02 id c) (t : Bool) (u : List ℕ) (z : u ≡ part s at n) (g : t ≡ cond (isNumber m) true (wellFormed d u)) where
+    pub field-number : m ≡ numberUnder 0x02 id (part s a n)
+    field-number = y ∙ ap (numberUnder 0x02 id) x
+
+    asked : cond (isNumber m) true (wellFormed d (part s at n)) ≡ t
+    asked = ap (λ (k : List ℕ). cond (isNumber m) true (wellFormed d k)) (sym z) ∙ sym g
+
+    pub right-passed : t ≡ true → {B : Type 0} (v : B) (F : List Field → B) → guarded d v (λ fs. F (fieldFrom s at id a n ∷ fs)) (partOf s n end) ≡ guarded d v F (partOf s at end)
     unfolding isNumber
-    right-passed c {B} v F = go m refl c
+    right-passed b {B} v F = go m refl (asked ∙ b)
       where
         go : (k : Number) → m ≡ k → cond (isNumber k) true (wellFormed d (part s at n)) ≡ true → guarded d v (λ fs. F (fieldFrom s at id a n ∷ fs)) (partOf s n end) ≡ guarded d v F (partOf s at end)
-        go (Of i) x c = number-passed i (sym e ∙ x) v F
-        go Absent x c = element-passed d s at end r q id a n w c v F
+        go (Of i) e h = number-passed i (sym field-number ∙ e) v F
+        go Absent e h = element-passed d s at end r q id a n w h v F
 
-    pub right-not : cond (isNumber m) true (wellFormed d (part s at n)) ≡ false → {B : Type 0} (v : B) (F : List Field → B) → v ≡ guarded d v F (partOf s at end)
+    pub right-not : t ≡ false → {B : Type 0} (v : B) (F : List Field → B) → v ≡ guarded d v F (partOf s at end)
     unfolding isNumber
-    right-not c {B} v F = go m c
+    right-not b {B} v F = go m (asked ∙ b)
       where
         go : (k : Number) → cond (isNumber k) true (wellFormed d (part s at n)) ≡ false → v ≡ guarded d v F (partOf s at end)
-        go (Of i) c = let z : _≡_ {A = Bool} true false = c in absurd (true≢false z)
-        go Absent c = element-not d s at end r q id a n w c v F
+        go (Of i) h = let o : _≡_ {A = Bool} true false = h in absurd (true≢false o)
+        go Absent h = element-not d s at end r q id a n w h v F
 
 -- ---- at most one value behind a code
 
@@ -110,21 +115,15 @@ module _ (d : ℕ) (s : List ℕ) (at end : ℕ) (r : FieldPlaces) (q : r ≡ fi
     coded-not e = all-wrong d s at end uncoded codedOf (λ c. ap codedOf (field-listed d s at end r q id a n w c) ∙ sym (cond-false _ uncoded e))
 
     module _ (l : 1 ≤ d) (m : Number) (c : List ℕ) (x : c ≡ part s a n) (y : m ≡ numberUnder 0x02 id c) (t : Bool) (u : List ℕ) (z : u ≡ part s at n) (g : t ≡ cond (isNumber m) true (wellFormed d u)) where
-      read : m ≡ numberUnder 0x02 id (part s a n)
-      read = y ∙ ap (numberUnder 0x02 id) x
-
-      asked : cond (isNumber m) true (wellFormed d (part s at n)) ≡ t
-      asked = ap (λ (k : List ℕ). cond (isNumber m) true (wellFormed d k)) (sym z) ∙ sym g
-
       pub coded-wrong : t ≡ false → uncoded ≡ codedIn d (partOf s at end)
-      coded-wrong b = right-not d s at end r q id a n w l m read (asked ∙ b) uncoded codedOf
+      coded-wrong b = right-not d s at end r q id a n w l m c x y t u z g b uncoded codedOf
 
       pub coded-behind : isCode id ≡ true → t ≡ true → (k : CodeField) → k ≡ codeOf m → guarded d uncoded (codedWith k) (partOf s n end) ≡ codedIn d (partOf s at end)
       unfolding codedOf
       coded-behind e b k h =
           ap (λ (o : Coded). cond (contentsOf d (part s n end)) o uncoded)
-          (ap (λ (j : CodeField). codedWith j (fields d (partOf s n end))) (h ∙ ap codeOf read) ∙ cond-true _ uncoded e)
-          ∙ right-passed d s at end r q id a n w l m read (asked ∙ b) uncoded codedOf
+          (ap (λ (j : CodeField). codedWith j (fields d (partOf s n end))) (h ∙ ap codeOf (field-number d s at end r q id a n w l m c x y t u z g)) ∙ cond-true _ uncoded e)
+          ∙ right-passed d s at end r q id a n w l m c x y t u z g b uncoded codedOf
 
 -- ---- an optional linked id: an Invoke behind its id
 

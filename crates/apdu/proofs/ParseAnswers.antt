@@ -24,12 +24,12 @@ use Rattle.apdu.specs.declared.field.Field.{Field as FieldPlaces}
 use Rattle.apdu.specs.declared.field.Field.the-variants.{At as FieldAt, Other}
 use Rattle.apdu.specs.Field.{Part, partOf, Field, fields}
 use Rattle.apdu.specs.Parse.{Apdu, mistyped, result, numberUnder, uncoded, codedOf, linkedOf, invokeBehind, resultWith, resultBehind, errorBehind, behindId, withId}
-use Rattle.apdu.specs.Steps.{fieldAt, movedFrame, frameAt, guarded, codedIn, invokeIn, isNumber, idIn}
+use Rattle.apdu.specs.Steps.{fieldAt, movedFrame, frameAt, guarded, codedIn, invokeIn, idIn}
 use Rattle.apdu.proofs.FieldLaws.{fields-none}
 use Rattle.apdu.proofs.FieldHead.{Head, fields-head}
 use Rattle.apdu.proofs.FieldAnswers.{none-left, all-wrong, whole-left, not-whole, other-field, field-listed}
 use Rattle.ber.proofs.RuleLaws.{constructed-not}
-use Rattle.apdu.proofs.CodedAnswers.{right-passed}
+use Rattle.apdu.proofs.CodedAnswers.{number-passed}
 
 -- ---- A2: what fills the octets from a place on
 
@@ -170,7 +170,7 @@ module _ (s : List ℕ) (at end : ℕ) (r : FieldPlaces) (q : r ≡ fieldAt s at
 
   module _ (id a n : ℕ) (w : r ≡ FieldAt id a n) (m : Number) (c : List ℕ) (x : c ≡ part s a n) (y : m ≡ numberUnder 0x02 id c) where
     pub id-first : guarded (levels - 1) (mistyped m) (behindId t m) (partOf s n end) ≡ guarded (levels - 1) (mistyped (idIn s (fieldAt s at end))) (withId t) (partOf s at end)
-    unfolding idIn withId behindId isNumber
+    unfolding idIn withId behindId
     id-first = go m (sym read)
       where
         read : m ≡ numberUnder 0x02 id (part s a n)
@@ -183,7 +183,7 @@ module _ (s : List ℕ) (at end : ℕ) (r : FieldPlaces) (q : r ≡ fieldAt s at
             → guarded (levels - 1) (mistyped k) (behindId t k) (partOf s n end) ≡ guarded (levels - 1) (mistyped (idIn s (fieldAt s at end))) (withId t) (partOf s at end)
         go (Of i) z =
             ap (λ (j : Number). cond (contentsOf (levels - 1) (part s n end)) (behindId t j (fields (levels - 1) (partOf s n end))) (mistyped (Of i))) (sym z)
-            ∙ right-passed (levels - 1) s at end r q id a n w (omega arith) (Of i) (sym z) refl (mistyped (Of i)) (withId t)
+            ∙ number-passed (levels - 1) s at end r q id a n w (omega arith) i z (mistyped (Of i)) (withId t)
             ∙ ap (λ (j : Number). guarded (levels - 1) (mistyped j) (withId t) (partOf s at end)) (sym (found ∙ read ∙ z))
         go Absent z =
             sym (behind-no-id t Absent (partOf s n end) refl)

@@ -24,7 +24,7 @@ use Rattle.apdu.proofs.FieldLaws.{fields-none}
 use Rattle.apdu.proofs.FieldHead.{Head, fields-head}
 use Rattle.apdu.proofs.FieldAnswers.{fieldFrom, none-left, all-wrong, other-field, field-listed, field-others, primitive-passed}
 use Rattle.ber.proofs.RuleLaws.{constructed-not}
-use Rattle.apdu.proofs.CodedAnswers.{right-passed, right-not}
+use Rattle.apdu.proofs.CodedAnswers.{field-number, right-passed, right-not}
 
 -- a problem, by its kind and its contents
 module _ (t : ℕ) (c : List ℕ) where
@@ -157,17 +157,11 @@ module _ (s : List ℕ) (at end : ℕ) (r : FieldPlaces) (q : r ≡ fieldAt s at
 
   module _ (id a n : ℕ) (w : r ≡ FieldAt id a n) (m : Number) (c : List ℕ) (x : c ≡ part s a n) (y : m ≡ numberUnder 0x02 id c) (t : Bool) (u : List ℕ) (z : u ≡ part s at n)
       (g : t ≡ cond (isNumber m) true (wellFormed (levels - 1) u)) where
-    read : m ≡ numberUnder 0x02 id (part s a n)
-    read = y ∙ ap (numberUnder 0x02 id) x
-
-    asked : cond (isNumber m) true (wellFormed (levels - 1) (part s at n)) ≡ t
-    asked = ap (λ (k : List ℕ). cond (isNumber m) true (wellFormed (levels - 1) k)) (sym z) ∙ sym g
-
     pub reject-wrong : t ≡ false → mistyped Absent ≡ guarded (levels - 1) (mistyped Absent) rejectOf (partOf s at end)
-    reject-wrong b = right-not (levels - 1) s at end r q id a n w (omega arith) m read (asked ∙ b) (mistyped Absent) rejectOf
+    reject-wrong b = right-not (levels - 1) s at end r q id a n w (omega arith) m c x y t u z g b (mistyped Absent) rejectOf
 
     pub reject-first : t ≡ true → guarded (levels - 1) (mistyped Absent) (rejectBehind m id) (partOf s n end) ≡ guarded (levels - 1) (mistyped Absent) rejectOf (partOf s at end)
     unfolding rejectOf
     reject-first b =
-        ap (λ (k : Number). guarded (levels - 1) (mistyped Absent) (rejectBehind k id) (partOf s n end)) read
-        ∙ right-passed (levels - 1) s at end r q id a n w (omega arith) m read (asked ∙ b) (mistyped Absent) rejectOf
+        ap (λ (k : Number). guarded (levels - 1) (mistyped Absent) (rejectBehind k id) (partOf s n end)) (field-number (levels - 1) s at end r q id a n w (omega arith) m c x y t u z g)
+        ∙ right-passed (levels - 1) s at end r q id a n w (omega arith) m c x y t u z g b (mistyped Absent) rejectOf

@@ -7,9 +7,10 @@ use mathlib.Core.Option.{Option, some}
 use Prim.Native.Nat.{ℕ, zero, suc, _+_, _-_, _≤_}
 use native.Mathlib.Omega.{arith}
 use lib.ListN.{length, take, drop, length-append, length-drop, take-append-drop, List·getD-append}
-use lib.Seq.{take-append-le, drop-append-le, length-take-le}
+use lib.Seq.{drop-append-le, length-take-le}
 use borrow.Author.Tests.{le-leb}
 use Rattle.base.proofs.Tests.{cond-elim₂}
+use Rattle.base.proofs.PartLaws.{part-front}
 use Rattle.base.specs.Octets.{part}
 use Rattle.ber.specs.declared.element.Checked.{Checked}
 use Rattle.ber.specs.declared.element.Checked.the-variants.{Good, NoElement}
@@ -27,11 +28,7 @@ use Rattle.ber.proofs.ElementFacts.{Definite, Indefinite, element-facts
 -- ---- what follows does not matter
 
 part-prefix : (p r t : List ℕ) (a e : ℕ) → a ≤ e → e ≤ length p → part (p ++ r) a e ≡ part (p ++ t) a e
-part-prefix p r t a e o h =
-    let b : a ≤ length p = omega arith in
-    let w : e - a ≤ length (drop a p) = omega (arith, length-drop a p) in
-    ap (take (e - a)) (drop-append-le a p r b) ∙ take-append-le (e - a) (drop a p) r w
-    ∙ sym (ap (take (e - a)) (drop-append-le a p t b) ∙ take-append-le (e - a) (drop a p) t w)
+part-prefix p r t a e o h = part-front p r a e o h ∙ sym (part-front p t a e o h)
 
 closes-prefix : (p r t : List ℕ) → 2 ≤ length p → closes (p ++ t) ≡ closes (p ++ r)
 unfolding closes
