@@ -16,8 +16,8 @@ use Rattle.ber.proofs.ElementLaws.{First, contents-first}
 use Rattle.ber.proofs.ElementFacts.{element-facts}
 use Rattle.ber.proofs.Locality.{alone-well-formed}
 use Rattle.ber.proofs.FrameLaws.{frame-bounds, Framed, well-formed-frame}
-use Rattle.apdu.specs.Field.{Part, partBehind, Field, fields}
-use Rattle.apdu.proofs.FieldLaws.{fieldIn, fields-cons}
+use Rattle.apdu.specs.Field.{Part, partBehind, Field, fieldIn, fields}
+use Rattle.apdu.proofs.FieldLaws.{fields-cons}
 
 -- what of the first element of contents the header at their front says
 pub contents-definite : (d : ℕ) (s : List ℕ) (id a e : ℕ) → headerOf s ≡ At id a e → contentsOf d s ≡ true → size d s ≡ some e

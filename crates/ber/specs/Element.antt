@@ -29,6 +29,7 @@ foundBehind k (Ended n) = Ended (k + n)
 foundBehind k (Closed n) = Closed (k + n)
 foundBehind k Broken = Broken
 
+-- from the first element on, by what its check says
 unfoldable pub behindFirst : (List ℕ → Inside) → List ℕ → Checked → Inside
 behindFirst rest s NoElement = Broken
 behindFirst rest s (Good k) = foundBehind k (rest (drop k s))
