@@ -22,8 +22,8 @@ use Rattle.ber.proofs.FrameLaws.{Framed, well-formed-frame}
 use Rattle.apdu.specs.declared.Number.{Number}
 use Rattle.apdu.specs.declared.Number.the-variants.{Of, Absent}
 use Rattle.apdu.specs.declared.CodeField.{CodeField}
-use Rattle.apdu.specs.declared.field.Field.{Field as FieldPlaces}
-use Rattle.apdu.specs.declared.field.Field.the-variants.{At as FieldAt, Other}
+use Rattle.ber.specs.declared.element.Frame.{Frame}
+use Rattle.ber.specs.declared.element.Frame.the-variants.{Of as FrameOf, NoFrame}
 use Rattle.apdu.specs.Field.{Part, partOf, Field, fields}
 use Rattle.apdu.specs.Parse.{Apdu, mistyped, numberOf, numberUnder, isCode, codeOf, Coded, uncoded, coded, codedWith, codedOf, unlinked, linked, linkedWith, linkedOf, invokeWith, invokeBehind}
 use Rattle.apdu.specs.Steps.{fieldAt, guarded, isNumber, codedIn, invokeIn, behindNumber}
@@ -44,7 +44,7 @@ number-shortest t identifier c w =
         cond-elim (λ (i : Integer). numberOf i ≡ Of w → (identifier ≡ t) × (shortest c ≡ true)) (leb (length c) 4 && shortest c) _ NoInteger
         (λ q _. (e, and-right (leb (length c) 4) _ q)) (λ _ x. let z : _≡_ {A = ℕ} 0 1 = cc in absurd (omega arith))
 
-module _ (d : ℕ) (s : List ℕ) (at end : ℕ) (r : FieldPlaces) (q : r ≡ fieldAt s at end) (id a n : ℕ) (w : r ≡ FieldAt id a n) (l : 1 ≤ d) where
+module _ (d : ℕ) (s : List ℕ) (at end : ℕ) (r : Frame) (q : r ≡ fieldAt s at end) (id a n : ℕ) (w : r ≡ FrameOf id a n) (l : 1 ≤ d) where
   -- a field that is a right integer is an element
   pub number-passed : (i : ℕ) → numberUnder 0x02 id (part s a n) ≡ Of i → {B : Type 0} (v : B) (F : List Field → B)
       → guarded d v (λ fs. F (fieldFrom s at id a n ∷ fs)) (partOf s n end) ≡ guarded d v F (partOf s at end)
@@ -97,8 +97,8 @@ module _ (d : ℕ) (s : List ℕ) (at end : ℕ) (c : CodeField) (v : List ℕ) 
 
 -- ---- a code and at most one value
 
-module _ (d : ℕ) (s : List ℕ) (at end : ℕ) (r : FieldPlaces) (q : r ≡ fieldAt s at end) where
-  pub coded-other : r ≡ Other → uncoded ≡ codedIn d (partOf s at end)
+module _ (d : ℕ) (s : List ℕ) (at end : ℕ) (r : Frame) (q : r ≡ fieldAt s at end) where
+  pub coded-other : r ≡ NoFrame → uncoded ≡ codedIn d (partOf s at end)
   unfolding codedOf isCode
   coded-other w =
       all-wrong d s at end uncoded codedOf
@@ -109,7 +109,7 @@ module _ (d : ℕ) (s : List ℕ) (at end : ℕ) (r : FieldPlaces) (q : r ≡ fi
       let n : (t : ℕ) → (t / 32 % 2 ≡ 1 → ⊥) → eqb (f .field .identifier) t ≡ false = λ t z. ne-eqb (f .field .identifier) t (λ x. constructed-not (getD (part s at end) 0 0) t k z (sym (f .identifier) ∙ x)) in
       ap codedOf (f .all) ∙ sym (cond-false _ uncoded (or-false (n 0x02 (λ z. omega arith)) (n 0x06 (λ z. omega arith))))))
 
-  module _ (id a n : ℕ) (w : r ≡ FieldAt id a n) where
+  module _ (id a n : ℕ) (w : r ≡ FrameOf id a n) where
     pub coded-not : isCode id ≡ false → uncoded ≡ codedIn d (partOf s at end)
     unfolding codedOf
     coded-not e = all-wrong d s at end uncoded codedOf (λ c. ap codedOf (field-listed d s at end r q id a n w c) ∙ sym (cond-false _ uncoded e))
@@ -136,7 +136,7 @@ invoke-pushed d i l p = go (contentsOf d (p .octets))
     go true = refl
     go false = refl
 
-module _ (s : List ℕ) (at end : ℕ) (r : FieldPlaces) (q : r ≡ fieldAt s at end) (i : ℕ) where
+module _ (s : List ℕ) (at end : ℕ) (r : Frame) (q : r ≡ fieldAt s at end) (i : ℕ) where
   -- none stands there
   unlinked-fields : (contentsOf (levels - 1) (part s at end) ≡ true → linkedOf (fields (levels - 1) (partOf s at end)) ≡ linked Absent (fields (levels - 1) (partOf s at end)))
       → invokeWith i Absent (codedIn (levels - 1) (partOf s at end)) ≡ invokeIn i (partOf s at end)
@@ -152,7 +152,7 @@ module _ (s : List ℕ) (at end : ℕ) (r : FieldPlaces) (q : r ≡ fieldAt s at
   unfolding linkedOf
   linked-not f fs x y = sym (cond-false _ _ (ne-eqb (f .identifier) 0x81 y) ∙ cond-false _ _ (ne-eqb (f .identifier) 0x80 x))
 
-  pub linked-other : r ≡ Other → invokeWith i Absent (codedIn (levels - 1) (partOf s at end)) ≡ invokeIn i (partOf s at end)
+  pub linked-other : r ≡ NoFrame → invokeWith i Absent (codedIn (levels - 1) (partOf s at end)) ≡ invokeIn i (partOf s at end)
   unfolding linkedOf
   linked-other w =
       unlinked-fields
@@ -166,7 +166,7 @@ module _ (s : List ℕ) (at end : ℕ) (r : FieldPlaces) (q : r ≡ fieldAt s at
       (λ x. constructed-not (getD (part s at end) 0 0) 0x81 k (λ z. omega arith) (sym (f .identifier) ∙ x))
       ∙ ap (linked Absent) (sym (f .all))))
 
-  module _ (id a n : ℕ) (w : r ≡ FieldAt id a n) where
+  module _ (id a n : ℕ) (w : r ≡ FrameOf id a n) where
     pub linked-code : (id ≡ 0x80 → ⊥) → (id ≡ 0x81 → ⊥) → invokeWith i Absent (codedIn (levels - 1) (partOf s at end)) ≡ invokeIn i (partOf s at end)
     linked-code x y =
         unlinked-fields

@@ -1,5 +1,5 @@
 -- What each way through the code that parses answers.
-use Prim.Native.Nat.{ℕ, _+_, _-_, _≤_}
+use Prim.Native.Nat.{ℕ, _-_, _≤_}
 use mathlib.Core.Path.{_≡_, refl, sym, ap, _∙_}
 use mathlib.Core.Bool.{Bool, true, false, cond}
 use mathlib.Core.List.{List, [], _∷_}
@@ -20,11 +20,10 @@ use Rattle.ber.proofs.HeaderLaws.{Bounds}
 use Rattle.ber.proofs.FrameLaws.{framed, well-formed-framed, frame-bounds}
 use Rattle.apdu.specs.declared.Number.{Number}
 use Rattle.apdu.specs.declared.Number.the-variants.{Of, Absent}
-use Rattle.apdu.specs.declared.field.Field.{Field as FieldPlaces}
-use Rattle.apdu.specs.declared.field.Field.the-variants.{At as FieldAt, Other}
 use Rattle.apdu.specs.Field.{Part, partOf, Field, fields}
 use Rattle.apdu.specs.Parse.{Apdu, mistyped, result, numberUnder, uncoded, codedOf, linkedOf, invokeBehind, resultWith, resultBehind, errorBehind, behindId, withId}
-use Rattle.apdu.specs.Steps.{fieldAt, movedFrame, frameAt, guarded, codedIn, invokeIn, idIn}
+use Rattle.apdu.specs.Steps.{fieldAt, frameAt, guarded, codedIn, invokeIn, idIn}
+use Rattle.apdu.proofs.MovedFrame.{Found, moved-from, moved-none}
 use Rattle.apdu.proofs.FieldLaws.{fields-none}
 use Rattle.apdu.proofs.FieldHead.{Head, fields-head}
 use Rattle.apdu.proofs.FieldAnswers.{none-left, all-wrong, whole-left, not-whole, other-field, field-listed}
@@ -32,15 +31,6 @@ use Rattle.ber.proofs.RuleLaws.{constructed-not}
 use Rattle.apdu.proofs.CodedAnswers.{number-passed}
 
 -- ---- A2: what fills the octets from a place on
-
-pub frame-room : (s : List ℕ) (at end : ℕ) (f : Frame) → f ≡ frameOf (part s at end) → (id a e : ℕ) → f ≡ FrameOf id a e → (a ≤ e) × (at + e ≤ length s)
-frame-room s at end f q id a e w =
-    let b : Bounds (part s at end) id a e = frame-bounds (part s at end) id a e (sym q ∙ w) in
-    omega (arith, part-length s at end)
-
-pub frame-moved : (s : List ℕ) (at end : ℕ) (f g : Frame) → f ≡ frameOf (part s at end) → f ≡ g → movedFrame at g ≡ frameAt s at end
-unfolding frameAt
-frame-moved s at end f g q w = ap (movedFrame at) (sym w ∙ q)
 
 result-not : (i : ℕ) (f : Field) (fs : List Field) → (f .identifier ≡ 0x30 → ⊥) → resultBehind i (f ∷ fs) ≡ mistyped (Of i)
 unfolding resultBehind
@@ -58,29 +48,14 @@ module _ (s : List ℕ) (at end i : ℕ) where
     ill-formed x = not-whole (levels - 1) s at end (mistyped (Of i)) (resultBehind i) h x (λ f g fs. refl)
 
     pub result-frameless : f ≡ NoFrame → mistyped (Of i) ≡ guarded (levels - 1) (mistyped (Of i)) (resultBehind i) (partOf s at end)
-    unfolding frameAt movedFrame
-    result-frameless w = ill-formed (well-formed-framed 14 (part s at end) ∙ go (frameOf (part s at end)) (sym q ∙ w))
-      where
-        go : (g : Frame) → movedFrame at g ≡ NoFrame → framed 14 (part s at end) g ≡ false
-        go NoFrame x = refl
-        go (FrameOf id a e) x = let z : _≡_ {A = ℕ} 0 1 = cc in absurd (omega arith)
+    unfolding frameAt
+    result-frameless w =
+        ill-formed (well-formed-framed 14 (part s at end) ∙ ap (framed 14 (part s at end)) (moved-none at (frameOf (part s at end)) (sym q ∙ w)))
 
     module _ (id a e : ℕ) (w : f ≡ FrameOf id a e) where
-      record Inner : Type 0 where
-        start : ℕ
-        stop : ℕ
-        frame : frameOf (part s at end) ≡ FrameOf id start stop
-        starts : at + start ≡ a
-        ends : at + stop ≡ e
-
-      inner : Inner
-      unfolding frameAt movedFrame
-      inner = go (frameOf (part s at end)) refl (sym q ∙ w)
-        where
-          go : (g : Frame) → frameOf (part s at end) ≡ g → movedFrame at g ≡ FrameOf id a e → Inner
-          go NoFrame k x = let z : _≡_ {A = ℕ} 0 1 = cc in absurd (omega arith)
-          go (FrameOf id′ a′ e′) k x =
-              let ei : id′ ≡ id = cc in record { start = a′; stop = e′; frame = k ∙ ap (λ (y : ℕ). FrameOf y a′ e′) ei; starts = cc; ends = cc }
+      inner : Found at (frameOf (part s at end)) id a e
+      unfolding frameAt
+      inner = moved-from at (frameOf (part s at end)) id a e (sym q ∙ w)
 
       bounds : Bounds (part s at end) id (inner .start) (inner .stop)
       bounds = frame-bounds (part s at end) id (inner .start) (inner .stop) (inner .frame)
@@ -150,13 +125,13 @@ behind-no-id t n p w = go (contentsOf (levels - 1) (p .octets)) ∙ ap (λ (m : 
 
 -- ---- what should be the id, and what is behind it
 
-module _ (s : List ℕ) (at end : ℕ) (r : FieldPlaces) (q : r ≡ fieldAt s at end) (t : ℕ) where
+module _ (s : List ℕ) (at end : ℕ) (r : Frame) (q : r ≡ fieldAt s at end) (t : ℕ) where
   wrong-id : idIn s (fieldAt s at end) ≡ Absent → (contentsOf (levels - 1) (part s at end) ≡ true → withId t (fields (levels - 1) (partOf s at end)) ≡ mistyped Absent)
       → mistyped Absent ≡ guarded (levels - 1) (mistyped (idIn s (fieldAt s at end))) (withId t) (partOf s at end)
   wrong-id e x =
       all-wrong (levels - 1) s at end (mistyped Absent) (withId t) x ∙ ap (λ (m : Number). guarded (levels - 1) (mistyped m) (withId t) (partOf s at end)) (sym e)
 
-  pub id-other : r ≡ Other → mistyped Absent ≡ guarded (levels - 1) (mistyped (idIn s (fieldAt s at end))) (withId t) (partOf s at end)
+  pub id-other : r ≡ NoFrame → mistyped Absent ≡ guarded (levels - 1) (mistyped (idIn s (fieldAt s at end))) (withId t) (partOf s at end)
   unfolding idIn withId behindId numberUnder
   id-other w =
       wrong-id (ap (idIn s) (sym q ∙ w))
@@ -168,7 +143,7 @@ module _ (s : List ℕ) (at end : ℕ) (r : FieldPlaces) (q : r ≡ fieldAt s at
       ∙ ap (λ (m : Number). behindId t m (f .others))
       (sym (cond-false _ Absent (ne-eqb (f .field .identifier) 0x02 (λ x. constructed-not (getD (part s at end) 0 0) 0x02 k (λ z. omega arith) (sym (f .identifier) ∙ x)))))))
 
-  module _ (id a n : ℕ) (w : r ≡ FieldAt id a n) (m : Number) (c : List ℕ) (x : c ≡ part s a n) (y : m ≡ numberUnder 0x02 id c) where
+  module _ (id a n : ℕ) (w : r ≡ FrameOf id a n) (m : Number) (c : List ℕ) (x : c ≡ part s a n) (y : m ≡ numberUnder 0x02 id c) where
     pub id-first : guarded (levels - 1) (mistyped m) (behindId t m) (partOf s n end) ≡ guarded (levels - 1) (mistyped (idIn s (fieldAt s at end))) (withId t) (partOf s at end)
     unfolding idIn withId behindId
     id-first = go m (sym read)

@@ -15,8 +15,8 @@ use Rattle.ber.specs.Rule.{contentRule}
 use Rattle.ber.specs.Element.{wellFormed}
 use Rattle.apdu.specs.declared.Number.{Number}
 use Rattle.apdu.specs.declared.Number.the-variants.{Of, Absent}
-use Rattle.apdu.specs.declared.field.Field.{Field as FieldPlaces}
-use Rattle.apdu.specs.declared.field.Field.the-variants.{At as FieldAt, Other}
+use Rattle.ber.specs.declared.element.Frame.{Frame}
+use Rattle.ber.specs.declared.element.Frame.the-variants.{Of as FrameOf, NoFrame}
 use Rattle.apdu.specs.Field.{partOf, Field}
 use Rattle.apdu.specs.Parse.{mistyped, reject, numberUnder, mostProblem, isProblem, idAllowed, rejectWith, rejectBehind, rejectOf}
 use Rattle.apdu.specs.Steps.{fieldAt, guarded, isNumber, RejectRight}
@@ -83,7 +83,7 @@ problem-kind k b =
 
 -- ---- fields that are none of a Reject's, or wrong
 
-module _ (s : List ℕ) (at end : ℕ) (r : FieldPlaces) (q : r ≡ fieldAt s at end) where
+module _ (s : List ℕ) (at end : ℕ) (r : Frame) (q : r ≡ fieldAt s at end) where
   module _ (n : Number) (t : ℕ) where
     -- a problem under a constructed identifier is none
     no-problem : (g : Field) (fs : List Field) → constructed (g .identifier) ≡ true → rejectBehind n t (g ∷ fs) ≡ mistyped Absent
@@ -95,7 +95,7 @@ module _ (s : List ℕ) (at end : ℕ) (r : FieldPlaces) (q : r ≡ fieldAt s at
         refused true e = absurd (omega (arith, problem-bounds (g .identifier) (g .contents .octets) e, eqb-true (g .identifier / 32 % 2) 1 k))
     no-problem g (h ∷ fs) k = refl
 
-    pub behind-other : r ≡ Other → mistyped Absent ≡ guarded (levels - 1) (mistyped Absent) (rejectBehind n t) (partOf s at end)
+    pub behind-other : r ≡ NoFrame → mistyped Absent ≡ guarded (levels - 1) (mistyped Absent) (rejectBehind n t) (partOf s at end)
     unfolding rejectBehind
     behind-other w =
         all-wrong (levels - 1) s at end (mistyped Absent) (rejectBehind n t)
@@ -105,7 +105,7 @@ module _ (s : List ℕ) (at end : ℕ) (r : FieldPlaces) (q : r ≡ fieldAt s at
         let f : Head (levels - 1) (partOf s at end) = fields-head (levels - 1) (partOf s at end) h c in
         ap (rejectBehind n t) (f .all) ∙ no-problem (f .field) (f .others) (ap constructed (f .identifier) ∙ k)))
 
-    module _ (kind a e : ℕ) (w : r ≡ FieldAt kind a e) where
+    module _ (kind a e : ℕ) (w : r ≡ FrameOf kind a e) where
       -- something follows the problem
       pub behind-more : 1 ≤ length (part s e end) → mistyped Absent ≡ guarded (levels - 1) (mistyped Absent) (rejectBehind n t) (partOf s at end)
       unfolding rejectBehind
@@ -134,7 +134,7 @@ module _ (s : List ℕ) (at end : ℕ) (r : FieldPlaces) (q : r ≡ fieldAt s at
               ∙ sym (reject-problem n t kind (part s a e) x))
 
   -- what stands in the place of the id is constructed, or nothing
-  pub reject-other : r ≡ Other → mistyped Absent ≡ guarded (levels - 1) (mistyped Absent) rejectOf (partOf s at end)
+  pub reject-other : r ≡ NoFrame → mistyped Absent ≡ guarded (levels - 1) (mistyped Absent) rejectOf (partOf s at end)
   unfolding rejectOf rejectBehind numberUnder idAllowed
   reject-other w =
       all-wrong (levels - 1) s at end (mistyped Absent) rejectOf
@@ -155,7 +155,7 @@ module _ (s : List ℕ) (at end : ℕ) (r : FieldPlaces) (q : r ≡ fieldAt s at
       no-id : (f : Field) (fs : List Field) → (f .identifier ≡ 0x02 → ⊥) → (f .identifier ≡ 0x05 → ⊥) → rejectOf (f ∷ fs) ≡ mistyped Absent
       no-id f fs x y = ap (λ (n : Number). rejectBehind n (f .identifier) fs) (sym (cond-false _ Absent (ne-eqb (f .identifier) 0x02 x))) ∙ behind f fs y
 
-  module _ (id a n : ℕ) (w : r ≡ FieldAt id a n) (m : Number) (c : List ℕ) (x : c ≡ part s a n) (y : m ≡ numberUnder 0x02 id c) (t : Bool) (u : List ℕ) (z : u ≡ part s at n)
+  module _ (id a n : ℕ) (w : r ≡ FrameOf id a n) (m : Number) (c : List ℕ) (x : c ≡ part s a n) (y : m ≡ numberUnder 0x02 id c) (t : Bool) (u : List ℕ) (z : u ≡ part s at n)
       (g : t ≡ cond (isNumber m) true (wellFormed (levels - 1) u)) where
     pub reject-wrong : t ≡ false → mistyped Absent ≡ guarded (levels - 1) (mistyped Absent) rejectOf (partOf s at end)
     reject-wrong b = right-not (levels - 1) s at end r q id a n w (omega arith) m c x y t u z g b (mistyped Absent) rejectOf

@@ -1,5 +1,5 @@
 -- The steps between: what private functions answer or ask for. No public function's promise cites them.
-use Prim.Native.Nat.{ℕ, _+_, _-_, _≤_}
+use Prim.Native.Nat.{ℕ, _+_, _-_, _^_, _≤_, _<_}
 use mathlib.Core.Path.{_≡_}
 use mathlib.Core.Bool.{Bool, true, false, cond}
 use mathlib.Core.List.{List}
@@ -18,8 +18,6 @@ use Rattle.apdu.specs.declared.field.Coded.{Coded as CodedPlaces}
 use Rattle.apdu.specs.declared.field.Coded.the-variants.{Is, Wrong as NoCode}
 use Rattle.apdu.specs.declared.field.Linked.{Linked as LinkedPlaces}
 use Rattle.apdu.specs.declared.field.Linked.the-variants.{To, Wrong as NoLink}
-use Rattle.apdu.specs.declared.field.Field.{Field as FieldPlaces}
-use Rattle.apdu.specs.declared.field.Field.the-variants.{At as FieldAt, Other}
 use Rattle.apdu.specs.declared.Parsed.{Parsed}
 use Rattle.apdu.specs.Field.{Part, partOf, Field, fields}
 use Rattle.apdu.specs.Parse.{Apdu, badlyStructured, unrecognized, mistyped, invoke, result, error, reject, Coded, uncoded, coded, codedOf, linkedOf, numberUnder, invokeWith, invokeBehind}
@@ -27,19 +25,24 @@ use Rattle.apdu.specs.Reading.{readOwnLink, readValue, readParsed}
 
 -- ---- what is read
 
--- a field of a definite length, its places moved into all of the octets
-unfoldable pub movedField : ℕ → Header → FieldPlaces
-movedField at NoHeader = Other
-movedField at (Open id a) = Other
-movedField at (At id a e) = FieldAt id (at + a) (at + e)
+-- the frame of a field whose header says where it ends
+unfoldable pub definiteFrame : Header → Frame
+definiteFrame NoHeader = NoFrame
+definiteFrame (Open id a) = NoFrame
+definiteFrame (At id a e) = FrameOf id a e
 
--- the field at the start of the octets from at up to end
-unfoldable pub fieldAt : List ℕ → ℕ → ℕ → FieldPlaces
-fieldAt s at end = movedField at (headerOf (part s at end))
-
+-- a frame found from at on, with places in all of the octets
 unfoldable pub movedFrame : ℕ → Frame → Frame
 movedFrame at NoFrame = NoFrame
 movedFrame at (FrameOf id a e) = FrameOf id (at + a) (at + e)
+
+-- these places fit into an address
+abbrev pub Fits : ℕ → Frame → Type 0
+Fits at f = (id a e : ℕ) → f ≡ FrameOf id a e → (a ≤ e) × (at + e < 2 ^ 64)
+
+-- the field at the start of the octets from at up to end
+unfoldable pub fieldAt : List ℕ → ℕ → ℕ → Frame
+fieldAt s at end = movedFrame at (definiteFrame (headerOf (part s at end)))
 
 -- the octets from at up to end in the frame of one element
 unfoldable pub frameAt : List ℕ → ℕ → ℕ → Frame
@@ -77,9 +80,9 @@ behindNumber i Absent p = mistyped (Of i)
 behindNumber i (Of l) p = invokeWith i (Of l) (codedIn (levels - 1) p)
 
 -- what stands in the place of an id
-unfoldable pub idIn : List ℕ → FieldPlaces → Number
-idIn s Other = Absent
-idIn s (FieldAt id a n) = numberUnder 0x02 id (part s a n)
+unfoldable pub idIn : List ℕ → Frame → Number
+idIn s NoFrame = Absent
+idIn s (FrameOf id a n) = numberUnder 0x02 id (part s a n)
 
 -- fields are wrong, or the first octet is: whether the octets are well formed decides what it is
 unfoldable pub unsettled : Apdu → Bool

@@ -5,10 +5,10 @@ use crate::Parsed;
 use crate::Span;
 use crate::Value;
 use crate::field::Coded;
-use crate::field::Field;
 use crate::field::Linked;
 use crate::field::code_and_value;
 use crate::field::field_at;
+use crate::field::frame_at;
 use crate::field::linked_id;
 use crate::field::number_under;
 use crate::reject::reject;
@@ -29,7 +29,7 @@ ghost use Rattle.apdu.specs.declared.Number.the-variants.{Of};
 ghost use Rattle.apdu.specs.Field.{partOf, fields};
 ghost use Rattle.apdu.specs.Parse.{bodyValue, mistyped, resultWith, resultBehind, errorBehind, behindId, withId, byKind, parse};
 ghost use Rattle.apdu.specs.Reading.{readValue, readBody, readParsed};
-ghost use Rattle.apdu.specs.Steps.{fieldAt, frameAt, guarded, readCoded, codedIn, invokeIn, idIn, Reading, settle};
+ghost use Rattle.apdu.specs.Steps.{fieldAt, guarded, readCoded, codedIn, invokeIn, idIn, Reading, settle};
 
 // A1, behind the id.
 fn invoke(s: &[u8], id: PeerId, at: usize, end: usize) -> Parsed
@@ -61,20 +61,6 @@ fn result_with(id: OwnId, c: Coded) -> Parsed
                 id,
                 body: Body::Of { code, value: span },
             },
-        },
-    }
-}
-
-// The element that is to fill the octets between two places: where its contents stand in all of the lent octets.
-fn frame_at(s: &[u8], at: usize, end: usize) -> Frame
-    ensures { λ r. ⌜ r ≡ frameAt (now (s .entry)) at end ⌝ }
-{
-    match frame_of(between(s, at, end)) {
-        Frame::NoFrame => Frame::NoFrame,
-        Frame::Of { id, start, stop } => Frame::Of {
-            id,
-            start: at + start,
-            stop: at + stop,
         },
     }
 }
@@ -136,11 +122,11 @@ fn with_id(s: &[u8], first: u8, at: usize, end: usize) -> Parsed
     ensures { λ r. ⌜ readParsed (now (s .entry)) r ≡ guarded (levels - 1) (mistyped (idIn (now (s .entry)) (fieldAt (now (s .entry)) at end))) (withId first) (partOf (now (s .entry)) at end) ⌝ }
 {
     match field_at(s, at, end) {
-        Field::Other => Parsed::Mistyped(Number::Absent),
-        Field::At {
+        Frame::NoFrame => Parsed::Mistyped(Number::Absent),
+        Frame::Of {
             id: identifier,
             start,
-            next,
+            stop: next,
         } => {
             let n = number_under(0x02, identifier, between(s, start, next));
             behind_id(s, first, n, next, end)

@@ -1,11 +1,11 @@
 // A received Reject: document 01, 'The four APDUs'.
 use crate::Number;
 use crate::Parsed;
-use crate::field::Field;
 use crate::field::field_at;
 use crate::field::is_right_field;
 use crate::field::number_under;
 use base::octets::between;
+use ber::element::Frame;
 use records::OwnId;
 use records::PeerId;
 use records::State;
@@ -116,11 +116,11 @@ fn reject_behind(s: &[u8], n: Number, identifier: u8, at: usize, end: usize) -> 
     ensures { λ r. ⌜ readParsed (now (s .entry)) r ≡ guarded (levels - 1) (mistyped Absent) (rejectBehind n identifier) (partOf (now (s .entry)) at end) ⌝ }
 {
     match field_at(s, at, end) {
-        Field::Other => Parsed::Mistyped(Number::Absent),
-        Field::At {
+        Frame::NoFrame => Parsed::Mistyped(Number::Absent),
+        Frame::Of {
             id: kind,
             start,
-            next,
+            stop: next,
         } => {
             if between(s, next, end).len() != 0 {
                 return Parsed::Mistyped(Number::Absent);
@@ -134,11 +134,11 @@ pub(crate) fn reject(s: &[u8], at: usize, end: usize) -> Parsed
     ensures { λ r. ⌜ readParsed (now (s .entry)) r ≡ guarded (levels - 1) (mistyped Absent) rejectOf (partOf (now (s .entry)) at end) ⌝ }
 {
     match field_at(s, at, end) {
-        Field::Other => Parsed::Mistyped(Number::Absent),
-        Field::At {
+        Frame::NoFrame => Parsed::Mistyped(Number::Absent),
+        Frame::Of {
             id: identifier,
             start,
-            next,
+            stop: next,
         } => {
             let n = number_under(0x02, identifier, between(s, start, next));
             if is_right_field(n, between(s, at, next), State::LEVELS - 1) {
