@@ -10,7 +10,7 @@ use lib.Dec.{eqb}
 use borrow.Author.Tests.{eq-eqb, eqb-true}
 use Rattle.base.proofs.Tests.{cond-true, cond-false, both-ways}
 use Rattle.ber.specs.declared.element.Checked.{Checked}
-use Rattle.ber.specs.declared.element.Checked.the-variants.{Good, NoElement}
+use Rattle.ber.specs.declared.element.Checked.the-variants.{Good, Wrong}
 use Rattle.ber.specs.declared.element.Inside.{Inside}
 use Rattle.ber.specs.declared.element.Inside.the-variants.{Ended, Closed, Broken}
 use Rattle.ber.specs.Element.{closes, foundBehind, behindFirst, elementsIn, fillsAll, elementOf, insideOf, contentsOf, size, fills, wellFormed}
@@ -20,7 +20,7 @@ use Rattle.ber.proofs.ElementBounds.{good-size, size-good, closing-leng
 
 first-same : (g h : List ℕ → Inside) (s : List ℕ) (r : Checked) → ((k : ℕ) → r ≡ Good k → g (drop k s) ≡ h (drop k s)) → behindFirst g s r ≡ behindFirst h s r
 unfolding behindFirst
-first-same g h s NoElement e = refl
+first-same g h s (Wrong p) e = refl
 first-same g h s (Good k) e = ap (foundBehind k) (e k refl)
 
 pub elements-fuel : (d m n : ℕ) (s : List ℕ) → length s ≤ m → length s ≤ n → elementsIn (elementOf d) m s ≡ elementsIn (elementOf d) n s
@@ -44,10 +44,10 @@ module _ (d m : ℕ) where
   elements-step [] n e = absurd (omega (arith, good-bounds d [] n e))
   elements-step (b ∷ s) n e = sym (cond-false (Closed 0) _ (good-opens d (b ∷ s) n e)) ∙ ap (behindFirst (elementsIn (elementOf d) m) (b ∷ s)) e
 
-  pub elements-fault : (s : List ℕ) → 1 ≤ length s → closes s ≡ false → elementOf d s ≡ NoElement → elementsIn (elementOf d) (suc m) s ≡ Broken
+  pub elements-fault : (s : List ℕ) (p : ℕ) → 1 ≤ length s → closes s ≡ false → elementOf d s ≡ Wrong p → elementsIn (elementOf d) (suc m) s ≡ Broken p
   unfolding elementsIn behindFirst
-  elements-fault [] h z e = absurd (omega arith)
-  elements-fault (b ∷ s) h z e = sym (cond-false (Closed 0) _ z) ∙ ap (behindFirst (elementsIn (elementOf d) m) (b ∷ s)) e
+  elements-fault [] p h z e = absurd (omega arith)
+  elements-fault (b ∷ s) p h z e = sym (cond-false (Closed 0) _ z) ∙ ap (behindFirst (elementsIn (elementOf d) m) (b ∷ s)) e
 
   pub elements-closed : (s : List ℕ) → closes s ≡ true → elementsIn (elementOf d) (suc m) s ≡ Closed 0
   unfolding elementsIn
@@ -76,8 +76,8 @@ module _ (d : ℕ) (s : List ℕ) where
   pub inside-closed : closes s ≡ true → insideOf d s ≡ Closed 0
   inside-closed z = as-many (length s) (omega (arith, closing-length s z)) (omega arith) ∙ elements-closed d (length s) s z
 
-  pub inside-fault : 1 ≤ length s → closes s ≡ false → elementOf d s ≡ NoElement → insideOf d s ≡ Broken
-  inside-fault h z e = as-many (length s) h (omega arith) ∙ elements-fault d (length s) s h z e
+  pub inside-fault : (p : ℕ) → 1 ≤ length s → closes s ≡ false → elementOf d s ≡ Wrong p → insideOf d s ≡ Broken p
+  inside-fault p h z e = as-many (length s) h (omega arith) ∙ elements-fault d (length s) s p h z e
 
 -- ---- walking contents
 
@@ -86,7 +86,7 @@ unfolding fillsAll foundBehind
 fills-behind m n (Ended k) h =
     both-ways (eqb (n + k) m) (eqb k (m - n)) (λ e. eq-eqb k (m - n) (omega (arith, eqb-true (n + k) m e))) (λ e. eq-eqb (n + k) m (omega (arith, eqb-true k (m - n) e)))
 fills-behind m n (Closed k) h = refl
-fills-behind m n Broken h = refl
+fills-behind m n (Broken p) h = refl
 
 pub contents-none : (d : ℕ) → contentsOf d [] ≡ true
 unfolding elementsIn fillsAll
@@ -97,13 +97,13 @@ contents-cons d s n q =
     ap (fillsAll (length s)) (inside-cons d s n q) ∙ fills-behind (length s) n (insideOf d (drop n s)) (element-bounds d s n q .1)
     ∙ ap (λ (m : ℕ). fillsAll m (insideOf d (drop n s))) (sym (length-drop n s))
 
-pub contents-fault : (d : ℕ) (s : List ℕ) → 1 ≤ length s → elementOf d s ≡ NoElement → contentsOf d s ≡ false
+pub contents-fault : (d : ℕ) (s : List ℕ) (p : ℕ) → 1 ≤ length s → elementOf d s ≡ Wrong p → contentsOf d s ≡ false
 unfolding fillsAll
-contents-fault d s h e = go (closes s) refl
+contents-fault d s p h e = go (closes s) refl
   where
     go : (b : Bool) → closes s ≡ b → contentsOf d s ≡ false
     go true z = ap (fillsAll (length s)) (inside-closed d s z)
-    go false z = ap (fillsAll (length s)) (inside-fault d s h z e)
+    go false z = ap (fillsAll (length s)) (inside-fault d s p h z e)
 
 -- contents that are not empty start with an element
 pub record First (d : ℕ) (s : List ℕ) : Type 0 where
@@ -116,7 +116,7 @@ contents-first d s h q = go (elementOf d s) refl
   where
     go : (r : Checked) → elementOf d s ≡ r → First d s
     go (Good n) e = record { n = n; element = good-size d s n e; others = sym (contents-cons d s n (good-size d s n e)) ∙ q }
-    go NoElement e = absurd (false≢true (sym (contents-fault d s h e) ∙ q))
+    go (Wrong p) e = absurd (false≢true (sym (contents-fault d s p h e) ∙ q))
 
 -- elements up to closing octets: these come at once, or behind an element
 pub record Later (d : ℕ) (s : List ℕ) (k : ℕ) : Type 0 where
@@ -133,14 +133,14 @@ closed-first {P} d s k q now later = start (closes s) refl
     next : (n : ℕ) → elementOf d s ≡ Good n → (i : Inside) → insideOf d (drop n s) ≡ i → foundBehind n i ≡ Closed k → P
     next n e (Ended l) u x = let z : _≡_ {A = ℕ} 0 1 = cc in absurd (omega arith)
     next n e (Closed l) u x = later (record { n = n; left = l; element = good-size d s n e; others = u; sum = sym (cc) })
-    next n e Broken u x = let z : _≡_ {A = ℕ} 0 1 = cc in absurd (omega arith)
+    next n e (Broken p) u x = let z : _≡_ {A = ℕ} 0 1 = cc in absurd (omega arith)
 
     some-octet : 1 ≤ length s
     some-octet = omega (arith, subst (Reaches (length s)) q (inside-reaches d s))
 
     found : (r : Checked) → elementOf d s ≡ r → closes s ≡ false → P
     found (Good n) e z = next n e (insideOf d (drop n s)) refl (sym (inside-cons d s n (good-size d s n e)) ∙ q)
-    found NoElement e z = let w = inside-fault d s some-octet z e in let z : _≡_ {A = ℕ} 0 1 = cc in absurd (omega arith)
+    found (Wrong p) e z = let w = inside-fault d s p some-octet z e in let z : _≡_ {A = ℕ} 0 1 = cc in absurd (omega arith)
 
     start : (b : Bool) → closes s ≡ b → P
     start true z = let w = inside-closed d s z in now z (cc)

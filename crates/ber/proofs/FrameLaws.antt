@@ -3,6 +3,7 @@ use mathlib.Core.Path.{_≡_, refl, sym, ap, subst, _∙_}
 use mathlib.Core.Logic.{⊎-elim}
 use mathlib.Core.Bool.{Bool, true, false, cond, _&&_, false≢true}
 use mathlib.Core.List.{List, [], _∷_, _++_, append-nil}
+use mathlib.Core.Option.{some, none}
 use Prim.Native.Nat.{ℕ, zero, suc, _+_, _-_, _≤_, _<_}
 use native.Mathlib.Omega.{arith}
 use lib.ListN.{length, take, drop, length-take, length-drop, take-append-drop}
@@ -15,7 +16,6 @@ use Rattle.base.proofs.Lists.{rest}
 use Rattle.base.specs.Octets.{part}
 use Rattle.ber.specs.declared.header.Header.{Header}
 use Rattle.ber.specs.declared.header.Header.the-variants.{At, Open, NoHeader}
-use Rattle.ber.specs.declared.element.Checked.the-variants.{Good, NoElement}
 use Rattle.ber.specs.declared.element.Inside.the-variants.{Closed}
 use Rattle.ber.specs.declared.element.Frame.{Frame}
 use Rattle.ber.specs.declared.element.Frame.the-variants.{Of, NoFrame}
@@ -25,7 +25,7 @@ use Rattle.ber.proofs.HeaderLaws.{Bounds, header-bounds, open-bounds}
 use Rattle.ber.proofs.HeaderFacts.{header-prefix}
 use Rattle.ber.proofs.ElementBounds.{Reaches, inside-reaches, element-bounds}
 use Rattle.ber.proofs.ElementLaws.{inside-cons, inside-closed, contents-none, contents-cons, First, contents-first, closed-first, well-formed-size, size-well-formed}
-use Rattle.ber.proofs.ElementFacts.{Indefinite, element-facts, indefinite-made}
+use Rattle.ber.proofs.ElementFacts.{Indefinite, made-size, element-facts, indefinite-made}
 use Rattle.ber.proofs.RuleLaws.{constructed-rule}
 use Rattle.ber.proofs.Locality.{element-prefix, element-append}
 
@@ -126,11 +126,12 @@ module _ (d : ℕ) (s : List ℕ) (id a : ℕ) (w : headerOf s ≡ Open id a) wh
 
 module _ (d : ℕ) (s : List ℕ) where
   definite-frame : (id a e : ℕ) → headerOf s ≡ At id a e → wellFormed (suc d) s ≡ framed d s (cond (eqb e (length s)) (Of id a e) NoFrame)
-  unfolding wellFormed size sizeIn fills elementOf elementWith
+  unfolding wellFormed size fills elementOf elementWith
   definite-frame id a e w =
-      ap (λ (h : Header). fills (length s) (sizeIn (elementWith (insideOf d) s h))) w ∙ go (makesElement (insideOf d) id (part s a e)) refl
+      ap (λ (h : Header). fills (length s) (sizeIn (elementWith (insideOf d) s h))) w ∙ ap (fills (length s)) (made-size d id a e (part s a e))
+      ∙ go (makesElement (insideOf d) id (part s a e)) refl
     where
-      go : (b : Bool) → makesElement (insideOf d) id (part s a e) ≡ b → fills (length s) (sizeIn (cond b (Good e) NoElement)) ≡ framed d s (cond (eqb e (length s)) (Of id a e) NoFrame)
+      go : (b : Bool) → makesElement (insideOf d) id (part s a e) ≡ b → fills (length s) (cond b (some e) none) ≡ framed d s (cond (eqb e (length s)) (Of id a e) NoFrame)
       go true m = cond-elim (λ (f : Frame). eqb e (length s) ≡ framed d s f) (eqb e (length s)) (Of id a e) NoFrame (λ t. t ∙ sym m) (λ t. t)
       go false m = cond-elim (λ (f : Frame). false ≡ framed d s f) (eqb e (length s)) (Of id a e) NoFrame (λ _. sym m) (λ _. refl)
 

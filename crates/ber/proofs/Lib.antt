@@ -10,6 +10,7 @@ pub mod ElementFacts
 pub mod Locality
 mod ElementAnswers
 mod ContentsAnswers
+pub mod FaultLaws
 pub mod FrameLaws
 mod IntegerAnswers
 pub mod IntegerLaws

@@ -5,7 +5,7 @@ use mathlib.Core.List.{List, [], _∷_, map}
 use mathlib.Core.Option.{some, none}
 use Rattle.ber.specs.Header.{numberFrom, continued, oneOf, highTag, highTagOctets, identifierOctets, constructed, lengthOf, headerWith, headerOf}
 use Rattle.ber.specs.Rule.{shortest, contentRule}
-use Rattle.ber.specs.Element.{closes, foundBehind, behindFirst, elementsIn, fillsAll, closedBehind, elementWith, elementOf, sizeIn, size}
+use Rattle.ber.specs.Element.{closes, foundBehind, behindFirst, elementsIn, filledBehind, closedBehind, made, elementWith, elementOf, sizeIn, size}
 
 abbrev samples : List (List ℕ)
 samples =
@@ -33,5 +33,5 @@ samples =
 -- two levels are enough: closing octets are none
 pub computed : map (size 2) samples
     ≡ some 4 ∷ some 7 ∷ some 8 ∷ some 6 ∷ some 5 ∷ some 8 ∷ none ∷ none ∷ none ∷ none ∷ none ∷ none ∷ []
-unfolding numberFrom continued oneOf highTag highTagOctets identifierOctets constructed lengthOf headerWith headerOf shortest contentRule closes foundBehind behindFirst elementsIn fillsAll closedBehind elementWith elementOf sizeIn size
+unfolding numberFrom continued oneOf highTag highTagOctets identifierOctets constructed lengthOf headerWith headerOf shortest contentRule closes foundBehind behindFirst elementsIn filledBehind closedBehind made elementWith elementOf sizeIn size
 computed = refl

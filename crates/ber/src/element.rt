@@ -1,4 +1,4 @@
-// The check that octets are elements: document 01, 'Well-formed octets', with indefinite lengths.
+// The check that octets are elements, and where they are not: document 01, 'Well-formed octets', with indefinite lengths and the place of the first fault.
 use crate::header::Header;
 use crate::header::Length;
 use crate::header::header_of;
@@ -8,20 +8,29 @@ use crate::rule::content_rule;
 ghost use mathlib.Core.Path.{_≡_};
 ghost use mathlib.Core.Bool.{cond};
 ghost use Rattle.ber.specs.Rule.{contentRule};
-ghost use Rattle.ber.specs.Element.{closes, elementsIn, elementOf, wellFormed, frameOf};
-ghost use Rattle.ber.specs.Steps.{filledElement, elementBehind};
+ghost use Prim.Native.Nat.{_+_, _<_, _^_};
+ghost use lib.ListN.{length};
+ghost use Rattle.ber.specs.Element.{closes, elementsIn, filledBehind, closedBehind, elementOf, wellFormed, findingIn, frameOf};
+ghost use Rattle.ber.specs.Steps.{Countable, elementBehind};
 
-// What a check finds at the front of octets: an element of so many octets, or none.
+// What a check finds at the front of octets: an element of so many octets, or the place of the first fault.
 pub enum Checked {
     Good { len: usize },
-    NoElement,
+    Wrong { at: usize },
 }
 
-// What a check finds of elements end to end: so many octets of them, with closing octets behind them or not; or something else.
+// What a check finds of elements end to end: so many octets of them, with closing octets behind them or not; or the place of the first fault.
 pub enum Inside {
     Ended { len: usize },
     Closed { len: usize },
-    Broken,
+    Broken { at: usize },
+}
+
+// What octets are that should be one element: that, or one and then more octets from a place on, or at fault from the start of the element at a place.
+pub enum Finding {
+    One,
+    More { at: usize },
+    Fault { at: usize },
 }
 
 // Octets that start and end as one element: the first octet, and where the contents start and stop.
@@ -45,53 +54,69 @@ fn is_closing(s: &[u8]) -> bool
 
 // A primitive element that takes so many octets: its contents follow the rule of its identifier.
 fn primitive(id: u8, c: &[u8], len: usize) -> Checked
-    ensures { λ r. ⌜ r ≡ cond (contentRule id (now (c .entry))) (Checked.Good len) Checked.NoElement ⌝ }
+    ensures { λ r. ⌜ r ≡ cond (contentRule id (now (c .entry))) (Checked.Good len) (Checked.Wrong 0) ⌝ }
 {
     if content_rule(id, c) {
         return Checked::Good { len };
     }
-    Checked::NoElement
+    Checked::Wrong { at: 0 }
 }
 
-// A constructed element of a definite length that takes so many octets: its contents are elements to their end.
-fn definite(inside: Inside, len: usize) -> Checked
-    ensures { λ r. ⌜ r ≡ filledElement len inside ⌝ }
+// A constructed element of a definite length, whose contents stand from `start` up to `end`.
+fn filled(inside: Inside, start: usize, end: usize) -> Checked
+    requires { ⌜ Countable start inside ⌝ }
+    ensures { λ r. ⌜ r ≡ filledBehind start end inside ⌝ }
 {
     match inside {
-        Inside::Ended { len: _ } => Checked::Good { len },
-        Inside::Closed { len: _ } => Checked::NoElement,
-        Inside::Broken => Checked::NoElement,
+        Inside::Ended { len: _ } => Checked::Good { len: end },
+        Inside::Closed { len } => Checked::Wrong { at: start + len },
+        Inside::Broken { at } => Checked::Wrong { at: start + at },
     }
 }
 
-// The element whose identifier starts with `id` and stands before s: how many octets of s belong to it, with so many levels left.
-fn element(id: u8, s: &[u8], levels: usize) -> Checked
-    ensures { λ r. ⌜ r ≡ elementBehind levels id (now (s .entry)) ⌝ }
+// An element of an indefinite length, whose contents stand from `start` on: a missing close is its own fault.
+fn closed(inside: Inside, start: usize) -> Checked
+    requires { ⌜ Countable start inside ⌝ }
+    ensures { λ r. ⌜ r ≡ closedBehind start inside ⌝ }
+{
+    match inside {
+        Inside::Ended { len: _ } => Checked::Wrong { at: 0 },
+        Inside::Closed { len } => Checked::Good {
+            len: start + len + 2,
+        },
+        Inside::Broken { at } => Checked::Wrong { at: start + at },
+    }
+}
+
+// The element whose identifier, of k octets and starting with `id`, stands before s: how many octets it takes, with so many levels left.
+fn element(id: u8, k: usize, s: &[u8], levels: usize) -> Checked
+    requires { ⌜ k + length (now s) < 2 ^ 63 ⌝ }
+    ensures { λ r. ⌜ r ≡ elementBehind levels id k (now (s .entry)) ⌝ }
 {
     if levels == 0 {
-        return Checked::NoElement;
+        return Checked::Wrong { at: 0 };
     }
     match length_of(s) {
-        Length::NoLength => Checked::NoElement,
+        Length::NoLength => Checked::Wrong { at: 0 },
         Length::Indefinite => {
             if id / 32 % 2 == 0 {
-                return Checked::NoElement;
+                return Checked::Wrong { at: 0 };
             }
-            match contents(&s[1..], s.len(), levels - 1) {
-                Inside::Closed { len } => Checked::Good { len: len + 3 },
-                Inside::Ended { len: _ } => Checked::NoElement,
-                Inside::Broken => Checked::NoElement,
-            }
+            closed(contents(&s[1..], s.len(), levels - 1), k + 1)
         }
         Length::Is { octets, value } => {
             if value > s.len() - octets {
-                return Checked::NoElement;
+                return Checked::Wrong { at: 0 };
             }
             let end = octets + value;
             if id / 32 % 2 != 1 {
-                return primitive(id, &s[octets..end], end);
+                return primitive(id, &s[octets..end], k + end);
             }
-            definite(contents(&s[octets..end], value, levels - 1), end)
+            filled(
+                contents(&s[octets..end], value, levels - 1),
+                k + octets,
+                k + end,
+            )
         }
     }
 }
@@ -112,14 +137,14 @@ fn contents(s: &[u8], most: usize, levels: usize) -> Inside
             if is_closing(t) {
                 return Inside::Closed { len: at };
             }
-            return Inside::Broken;
+            return Inside::Broken { at };
         }
-        match element(t[0], &t[k..], levels) {
-            Checked::NoElement => {
-                return Inside::Broken;
+        match element(t[0], k, &t[k..], levels) {
+            Checked::Wrong { at: inner } => {
+                return Inside::Broken { at: at + inner };
             }
             Checked::Good { len } => {
-                at += k + len;
+                at += len;
                 left -= 1;
             }
         }
@@ -127,17 +152,33 @@ fn contents(s: &[u8], most: usize, levels: usize) -> Inside
     Inside::Ended { len: at }
 }
 
+// What s is, which should be one element of at most so many levels.
+pub fn finding_in(s: &[u8], levels: usize) -> Finding
+    ensures { λ r. ⌜ r ≡ findingIn levels (now (s .entry)) ⌝ }
+{
+    if s.len() == 0 {
+        return Finding::Fault { at: 0 };
+    }
+    match contents(s, 1, levels) {
+        Inside::Ended { len } => {
+            if len == s.len() {
+                return Finding::One;
+            }
+            Finding::More { at: len }
+        }
+        Inside::Closed { len: _ } => Finding::Fault { at: 0 },
+        Inside::Broken { at } => Finding::Fault { at },
+    }
+}
+
 // s is one element, of at most so many levels.
 pub fn well_formed(s: &[u8], levels: usize) -> bool
     ensures { λ r. ⌜ r ≡ wellFormed levels (now (s .entry)) ⌝ }
 {
-    if s.len() == 0 {
-        return false;
-    }
-    match contents(s, 1, levels) {
-        Inside::Ended { len } => len == s.len(),
-        Inside::Closed { len: _ } => false,
-        Inside::Broken => false,
+    match finding_in(s, levels) {
+        Finding::One => true,
+        Finding::More { at: _ } => false,
+        Finding::Fault { at: _ } => false,
     }
 }
 

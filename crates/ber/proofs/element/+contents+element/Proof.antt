@@ -5,10 +5,10 @@ use borrow.Author.Needs.{needs}
 use lib.ListN.{length, take, drop, length-take, length-drop}
 use Prim.Native.Nat.{ℕ, _<_, _≤_, _+_, _-_}
 use Rattle.base.proofs.Lists.{rest}
-use Rattle.ber.specs.Element.{foundBehind, closedBehind, elementsIn, elementOf}
+use Rattle.ber.specs.Element.{foundBehind, elementsIn, elementOf}
 use Rattle.ber.proofs.HeaderLaws.{identifier-within}
-use Rattle.ber.proofs.ElementAnswers.{behind-no-level, behind-no-length, open-room, closed-room, behind-open-primitive, behind-open, behind-closed, definite-room, behind-cut, behind-primitive, behind-definite}
-use Rattle.ber.proofs.ContentsAnswers.{behind-none, loop-counted, loop-end, loop-closed, loop-refused, loop-wrong, loop-room, loop-step}
+use Rattle.ber.proofs.ElementAnswers.{behind-no-level, behind-no-length, open-room, definite-room, countable, behind-open-primitive, behind-open, behind-cut, behind-primitive, behind-definite}
+use Rattle.ber.proofs.ContentsAnswers.{behind-none, loop-counted, loop-end, loop-closed, loop-refused, loop-wrong, loop-place, loop-room, loop-step}
 use borrow.Fn.Kinds.{In}
 use borrow.Fn.PlainCycle.{Measures, is, falls, and}
 use Rattle.ber.proofs.element.contents.Reads as contents
@@ -17,7 +17,8 @@ use Rattle.ber.proofs.element.+contents+element.Lts-contents as content
 use Rattle.ber.proofs.element.element.Reads as element
 use Rattle.ber.proofs.element.element.Kinds as element-kinds
 use Rattle.ber.proofs.element.+contents+element.Lts-element as element-lts
-use Rattle.ber.proofs.element.definite.Reads as definite-reads
+use Rattle.ber.proofs.element.closed.Reads as closed-reads
+use Rattle.ber.proofs.element.filled.Reads as filled-reads
 use Rattle.ber.proofs.element.is_closing.Reads as is-closing-reads
 use Rattle.ber.proofs.element.primitive.Reads as primitive-reads
 use Rattle.ber.proofs.header.identifier_octets.Reads as identifier-octets-reads
@@ -29,7 +30,7 @@ abbrev μ-contents : Measures 1 contents-kinds.ps ℕ
 μ-contents κs a = length (a .0 .now)
 
 abbrev μ-element : Measures 1 element-kinds.ps ℕ
-μ-element κs a = length (a .1 .0 .now)
+μ-element κs a = length (a .1 .1 .0 .now)
 
 abbrev contents-at : ℕ → In 1 contents-kinds.ps
 contents-at t = and 1 contents-kinds.ps (is 1 contents-kinds.ps μ-contents t) contents.Pre
@@ -50,7 +51,18 @@ contents-calls t =
 
 abbrev element-calls : ℕ → element-lts.Claims
 element-calls t =
-    (length-of-reads.Asked, length-of-reads.Learnt, contents-below t, contents.Post, primitive-reads.Asked, primitive-reads.Learnt, definite-reads.Asked, definite-reads.Learnt)
+    (
+      length-of-reads.Asked,
+      length-of-reads.Learnt,
+      contents-below t,
+      contents.Post,
+      closed-reads.Asked,
+      closed-reads.Learnt,
+      primitive-reads.Asked,
+      primitive-reads.Learnt,
+      filled-reads.Asked,
+      filled-reads.Learnt,
+    )
 
 -- what is left decides
 abbrev contents-Inv-loop : contents-lts.InvT-loop
@@ -100,25 +112,28 @@ contents-element-requires t c κs =
     let ident = c .before .before .before in let if1 = ident .before .before in let loop = if1 .before .before in let start = loop .before .before in
     let all = start .args .s .now in let at = loop .loop .at in let here = take (length all - at) (drop at all) in
     let k = ident .identifier-octets .result in
-    (omega (arith, ap length (rest all at), length-drop at all, ap length (rest here k), length-drop k here, start .pre .0), tt)
+    let fits = ap length (rest all at) in (
+      omega (arith, length-drop at all, ap length (rest here k), length-drop k here, start .pre .0),
+      omega (arith, length-drop at all, ap length (rest here k), length-drop k here, identifier-within here, ident .identifier-octets .ensures, start .good),
+    )
+
+contents-add-t21 : (t : ℕ) → contents-lts.Need-add-t21 (contents-calls t) (contents-at t) contents.Post contents-Inv-loop contents-μ-loop
+contents-add-t21 t c =
+    let inner = c .before in let element = inner .before .before in let if2 = element .before .before .before in let ident = if2 .before in
+    let if1 = ident .before .before in let loop = if1 .before .before in
+    let room = loop-place _ _ _ _ _ (loop .loop .inv .1) (omega arith) (if1 .if1 .left) _ (ident .identifier-octets .ensures) (if2 .if2 .left) _
+    (element .element .ensures) _ (inner .inner .given .1) in
+    omega (arith, loop .before .before .good)
 
 contents-returns-4 : (t : ℕ) → contents-lts.Need-returns-4 (contents-calls t) (contents-at t) contents.Post contents-Inv-loop contents-μ-loop
 contents-returns-4 t c =
-    let element = c .before .before in let if2 = element .before .before .before in let ident = if2 .before in let if1 = ident .before .before in
-    let loop = if1 .before .before in
+    let inner = c .before in let element = inner .before .before in let if2 = element .before .before .before in let ident = if2 .before in
+    let if1 = ident .before .before in let loop = if1 .before .before in
     loop-wrong _ _ _ _ _ (loop .loop .inv .1) (omega arith) (if1 .if1 .left) _ (ident .identifier-octets .ensures) (if2 .if2 .left) _
-    (element .element .ensures) (c .enum-told .given .1)
+    (element .element .ensures) _ (inner .inner .given .1)
 
 contents-add-at : (t : ℕ) → contents-lts.Need-add-at (contents-calls t) (contents-at t) contents.Post contents-Inv-loop contents-μ-loop
 contents-add-at t c =
-    let len = c .before in let element = len .before .before in let if2 = element .before .before .before in let ident = if2 .before in
-    let if1 = ident .before .before in let loop = if1 .before .before in
-    let room = loop-room _ _ _ _ _ (loop .loop .inv .1) (omega arith) (if1 .if1 .left) _ (ident .identifier-octets .ensures) (if2 .if2 .left) _
-    (element .element .ensures) _ (len .len .given .1) in
-    omega (arith, loop .before .before .good)
-
-contents-add-at-2 : (t : ℕ) → contents-lts.Need-add-at-2 (contents-calls t) (contents-at t) contents.Post contents-Inv-loop contents-μ-loop
-contents-add-at-2 t c =
     let len = c .before in let element = len .before .before in let if2 = element .before .before .before in let ident = if2 .before in
     let if1 = ident .before .before in let loop = if1 .before .before in
     let room = loop-room _ _ _ _ _ (loop .loop .inv .1) (omega arith) (if1 .if1 .left) _ (ident .identifier-octets .ensures) (if2 .if2 .left) _
@@ -148,12 +163,12 @@ contents-returns-5 : (t : ℕ) → contents-lts.Need-returns-5 (contents-calls t
 contents-returns-5 t c = loop-end _ _ _ _ _ (c .before .loop .inv .1) (c .loop-test .left)
 
 element-returns : (t : ℕ) → element-lts.Need-returns (element-calls t) (element-at t) element.Post
-element-returns t c = behind-no-level _ _ _ (c .if1 .taken)
+element-returns t c = behind-no-level _ _ _ _ (c .if1 .taken)
 
 element-returns-2 : (t : ℕ) → element-lts.Need-returns-2 (element-calls t) (element-at t) element.Post
 element-returns-2 t c =
     let length-of = c .before .before .before in
-    behind-open-primitive _ _ _ _ (length-of .before .if1 .left) (length-of .length-of .ensures) (cc) (omega arith)
+    behind-open-primitive _ _ _ _ _ (length-of .before .if1 .left) (length-of .length-of .ensures) (cc) (omega arith)
 
 element-sub-contents : (t : ℕ) → element-lts.Need-sub-contents (element-calls t) (element-at t) element.Post
 element-sub-contents t c =
@@ -173,12 +188,18 @@ element-contents-requires t c κs =
     let room = open-room all _ (length-of .length-of .ensures) (cc) in
     (omega (arith, ap length (rest all 1), length-drop 1 all, length-of .before .before .before .pre .0), tt)
 
-element-add-t22 : (t : ℕ) → element-lts.Need-add-t22 (element-calls t) (element-at t) element.Post
-element-add-t22 t c =
-    let len = c .before in let contents = len .before .before in let length-of = contents .before .before .before .before .before in
+element-add-closed : (t : ℕ) → element-lts.Need-add-closed (element-calls t) (element-at t) element.Post
+element-add-closed t c =
+    let length-of = c .before .before .before .before .before in let start = length-of .before .before .before in let all = start .args .s .now in
+    let room = open-room all _ (length-of .length-of .ensures) (cc) in
+    omega (arith, start .pre .1)
+
+element-closed-requires : (t : ℕ) → element-lts.Need-closed-requires (element-calls t) (element-at t) element.Post
+element-closed-requires t c κs =
+    let length-of = c .before .before .before .before .before in
     let start = length-of .before .before .before in let all = start .args .s .now in
-    let room = closed-room _ (length all) _ _ (omega (arith, ap length (rest all 1), length-drop 1 all)) (contents .contents .ensures) _ (len .len .given .1) in
-    omega (arith, ap length (rest all 1), length-drop 1 all, start .good)
+    countable _ (length all) _ _ _ (omega (arith, ap length (rest all 1), length-drop 1 all, start .pre .1, open-room all _ (length-of .length-of .ensures) (cc)))
+    (omega (arith, ap length (rest all 1), length-drop 1 all)) (c .contents .ensures)
 
 element-sub-if3 : (t : ℕ) → element-lts.Need-sub-if3 (element-calls t) (element-at t) element.Post
 element-sub-if3 t c =
@@ -189,7 +210,7 @@ element-sub-if3 t c =
 element-returns-3 : (t : ℕ) → element-lts.Need-returns-3 (element-calls t) (element-at t) element.Post
 element-returns-3 t c =
     let octets = c .before .before in let length-of = octets .before .before in
-    behind-cut _ _ _ _ (length-of .before .if1 .left) (length-of .length-of .ensures) _ _ (octets .octets .given .1) (c .if3 .taken)
+    behind-cut _ _ _ _ _ (length-of .before .if1 .left) (length-of .length-of .ensures) _ _ (octets .octets .given .1) (c .if3 .taken)
 
 element-add-end : (t : ℕ) → element-lts.Need-add-end (element-calls t) (element-at t) element.Post
 element-add-end t c =
@@ -215,11 +236,17 @@ element-part-primitive-end t c =
     let room = definite-room all _ (length-of .length-of .ensures) _ _ (octets .octets .given .1) in
     omega arith
 
+element-add-primitive : (t : ℕ) → element-lts.Need-add-primitive (element-calls t) (element-at t) element.Post
+element-add-primitive t c =
+    let octets = c .before .before .before .before in let length-of = octets .before .before in let start = length-of .before .before .before in let all = start .args .s .now in
+    let room = definite-room all _ (length-of .length-of .ensures) _ _ (octets .octets .given .1) in
+    omega (arith, start .pre .1)
+
 element-returns-4 : (t : ℕ) → element-lts.Need-returns-4 (element-calls t) (element-at t) element.Post
 element-returns-4 t c =
     let if4 = c .before .before in let octets = if4 .before .before .before in let length-of = octets .before .before in
     c .primitive .ensures
-    ∙ behind-primitive _ _ _ _ (length-of .before .if1 .left) (length-of .length-of .ensures) _ _ (octets .octets .given .1) (omega arith) (if4 .if4 .taken)
+    ∙ behind-primitive _ _ _ _ _ (length-of .before .if1 .left) (length-of .length-of .ensures) _ _ (octets .octets .given .1) (omega arith) (if4 .if4 .taken)
 
 element-sub-contents-3 : (t : ℕ) → element-lts.Need-sub-contents-3 (element-calls t) (element-at t) element.Post
 element-sub-contents-3 t c =
@@ -246,35 +273,42 @@ element-contents-requires-2 t c κs =
     let k = octets .octets .given .0 .0 in let v = octets .octets .given .0 .1 .0 in
     (omega (arith, length-take (k + v - k) (drop k all), length-drop k all, start .pre .0), tt)
 
+element-add-filled : (t : ℕ) → element-lts.Need-add-filled (element-calls t) (element-at t) element.Post
+element-add-filled t c =
+    let octets = c .before .before .before .before .before in let length-of = octets .before .before in let start = length-of .before .before .before in let all = start .args .s .now in
+    let room = definite-room all _ (length-of .length-of .ensures) _ _ (octets .octets .given .1) in
+    omega (arith, start .pre .1)
+
+element-add-filled-2 : (t : ℕ) → element-lts.Need-add-filled-2 (element-calls t) (element-at t) element.Post
+element-add-filled-2 t c =
+    let octets = c .before .before .before .before .before in let length-of = octets .before .before in let start = length-of .before .before .before in let all = start .args .s .now in
+    let room = definite-room all _ (length-of .length-of .ensures) _ _ (octets .octets .given .1) in
+    omega (arith, start .pre .1)
+
+element-filled-requires : (t : ℕ) → element-lts.Need-filled-requires (element-calls t) (element-at t) element.Post
+element-filled-requires t c κs =
+    let octets = c .before .before .before .before .before in let length-of = octets .before .before in let start = length-of .before .before .before in let all = start .args .s .now in
+    let room = definite-room all _ (length-of .length-of .ensures) _ _ (octets .octets .given .1) in
+    let k = octets .octets .given .0 .0 in let v = octets .octets .given .0 .1 .0 in
+    countable _ v _ _ _ (omega (arith, length-take (k + v - k) (drop k all), length-drop k all, start .pre .1))
+    (omega (arith, length-take (k + v - k) (drop k all), length-drop k all)) (c .contents2 .ensures)
+
 element-returns-5 : (t : ℕ) → element-lts.Need-returns-5 (element-calls t) (element-at t) element.Post
 element-returns-5 t c =
     let length-of = c .before .before in
-    behind-no-length _ _ _ _ (length-of .before .if1 .left) (length-of .length-of .ensures) (cc)
+    behind-no-length _ _ _ _ _ (length-of .before .if1 .left) (length-of .length-of .ensures) (cc)
 
 element-returns-6 : (t : ℕ) → element-lts.Need-returns-6 (element-calls t) (element-at t) element.Post
 element-returns-6 t c =
-    let contents = c .before .before .before in let if2 = contents .before .before in let length-of = if2 .before .before .before in
-    behind-closed _ _ _ _ (length-of .before .if1 .left) (length-of .length-of .ensures) (cc) (omega (arith, if2 .if2 .left)) _ (contents .contents .ensures) _ (c .before .len .given .1)
+    let contents = c .before in let if2 = contents .before .before in let length-of = if2 .before .before .before in
+    c .closed .ensures
+    ∙ behind-open _ _ _ _ _ (length-of .before .if1 .left) (length-of .length-of .ensures) (cc) (omega (arith, if2 .if2 .left)) _ (contents .contents .ensures)
 
 element-returns-7 : (t : ℕ) → element-lts.Need-returns-7 (element-calls t) (element-at t) element.Post
-unfolding closedBehind
 element-returns-7 t c =
-    let contents = c .before .before in let if2 = contents .before .before in let length-of = if2 .before .before .before in
-    ap (closedBehind 1) (sym (c .enum-told3 .given .1))
-    ∙ behind-open _ _ _ _ (length-of .before .if1 .left) (length-of .length-of .ensures) (cc) (omega (arith, if2 .if2 .left)) _ (contents .contents .ensures)
-
-element-returns-8 : (t : ℕ) → element-lts.Need-returns-8 (element-calls t) (element-at t) element.Post
-unfolding closedBehind
-element-returns-8 t c =
-    let contents = c .before .before in let if2 = contents .before .before in let length-of = if2 .before .before .before in
-    ap (closedBehind 1) (sym (c .enum-told4 .given .1))
-    ∙ behind-open _ _ _ _ (length-of .before .if1 .left) (length-of .length-of .ensures) (cc) (omega (arith, if2 .if2 .left)) _ (contents .contents .ensures)
-
-element-returns-9 : (t : ℕ) → element-lts.Need-returns-9 (element-calls t) (element-at t) element.Post
-element-returns-9 t c =
     let contents = c .before in let if4 = contents .before .before in let octets = if4 .before .before .before in let length-of = octets .before .before in
-    c .definite .ensures
-    ∙ behind-definite _ _ _ _ (length-of .before .if1 .left) (length-of .length-of .ensures) _ _ (octets .octets .given .1) (omega arith) (if4 .if4 .left) _
+    c .filled .ensures
+    ∙ behind-definite _ _ _ _ _ (length-of .before .if1 .left) (length-of .length-of .ensures) _ _ (octets .octets .given .1) (omega arith) (if4 .if4 .left) _
     (contents .contents2 .ensures)
 
 pub +contents+element-spec : {M : Type 1} → statement M
@@ -283,13 +317,14 @@ pub +contents+element-spec : {M : Type 1} → statement M
     (λ t. contents-lts.spec (contents-calls t) (contents-at t) contents.Post contents-Inv-loop contents-μ-loop (contents-loop-holds t)
     (contents-returns t) (λ c. search needs) (λ c. search needs) (λ c. search needs) (λ c κs. search needs) (λ c κs. search needs)
     (contents-returns-2 t) (contents-returns-3 t) (contents-shared-slice-read-element t) (contents-sub-element t)
-    (contents-part-element-start t) (λ c. search needs) (contents-element-requires t) (λ c. search needs) (contents-returns-4 t)
-    (λ c. search needs) (contents-add-at t) (contents-add-at-2 t) (λ c. search needs) (contents-loop-less t) (contents-loop-again t)
+    (contents-part-element-start t) (λ c. search needs) (contents-element-requires t) (λ c. search needs) (contents-add-t21 t)
+    (contents-returns-4 t) (λ c. search needs) (contents-add-at t) (λ c. search needs) (contents-loop-less t) (contents-loop-again t)
     (contents-returns-5 t))
     λ t. element-lts.spec (element-calls t) (element-at t) element.Post (element-returns t) (λ c κs. search needs) (λ c. search needs)
     (λ c. search needs) (element-returns-2 t) (element-sub-contents t) (element-part-contents-start t) (λ c. search needs)
-    (λ c. search needs) (element-contents-requires t) (λ c. search needs) (element-add-t22 t) (λ c. search needs) (λ c. search needs)
-    (λ c. search needs) (element-sub-if3 t) (element-returns-3 t) (element-add-end t) (element-sub-primitive t)
-    (element-part-primitive-start t) (element-part-primitive-end t) (λ c κs. search needs) (element-returns-4 t) (element-sub-contents-3 t)
+    (λ c. search needs) (element-contents-requires t) (element-add-closed t) (element-closed-requires t) (λ c. search needs)
+    (element-sub-if3 t) (element-returns-3 t) (element-add-end t) (element-sub-primitive t) (element-part-primitive-start t)
+    (element-part-primitive-end t) (element-add-primitive t) (λ c κs. search needs) (element-returns-4 t) (element-sub-contents-3 t)
     (element-part-contents-start-2 t) (element-part-contents-end-2 t) (λ c. search needs) (element-contents-requires-2 t)
-    (λ c κs. search needs) (element-returns-5 t) (element-returns-6 t) (element-returns-7 t) (element-returns-8 t) (element-returns-9 t)
+    (element-add-filled t) (element-add-filled-2 t) (element-filled-requires t) (element-returns-5 t) (element-returns-6 t)
+    (element-returns-7 t)
