@@ -14,7 +14,7 @@ use Rattle.records.specs.declared.Code.{Code}
 use Rattle.records.specs.Limits.{levels}
 use Rattle.ber.specs.declared.element.Frame.{Frame}
 use Rattle.ber.specs.declared.element.Frame.the-variants.{Of as FrameOf, NoFrame}
-use Rattle.ber.specs.Element.{wellFormed, frameOf, elementOctets}
+use Rattle.ber.specs.Element.{wellFormed, place, frameOf, elementOctets}
 use Rattle.ber.proofs.FrameLaws.{frame-bounds}
 use Rattle.apdu.specs.declared.Number.{Number}
 use Rattle.apdu.specs.declared.Number.the-variants.{Of, Absent}
@@ -24,7 +24,7 @@ use Rattle.apdu.specs.Encode.{encodeInvoke, encodeResult, encodeError, e
 
 -- the first octet of an APDU of this kind, 0 for none of the four
 abbrev pub kindOctet : Apdu → ℕ
-kindOctet badlyStructured = 0
+kindOctet (badlyStructured at) = 0
 kindOctet unrecognized = 0
 kindOctet (mistyped i) = 0
 kindOctet (invoke i l c v) = 0xA1
@@ -101,7 +101,7 @@ says-at x (FrameOf id a e) q =
 
 says-first : (x : List ℕ) → Says (getD x 0 0) (parse x)
 unfolding parse
-says-first x = cond-elim (Says (getD x 0 0)) (wellFormed levels x) (parseAt x (frameOf x)) badlyStructured (λ _. says-at x (frameOf x) refl) (λ _. inl refl)
+says-first x = cond-elim (Says (getD x 0 0)) (wellFormed levels x) (parseAt x (frameOf x)) (badlyStructured (place levels x)) (λ _. says-at x (frameOf x) refl) (λ _. inl refl)
 
 -- what is read as one of the four kinds starts with the octet of that kind
 pub first-read : (x : List ℕ) (a : Apdu) → parse x ≡ a → 0 < kindOctet a → getD x 0 0 ≡ kindOctet a

@@ -10,7 +10,7 @@ use Rattle.base.proofs.Tests.{cond-elim}
 use Rattle.records.specs.Limits.{levels}
 use Rattle.ber.specs.declared.element.Frame.{Frame}
 use Rattle.ber.specs.declared.element.Frame.the-variants.{Of as FrameOf, NoFrame}
-use Rattle.ber.specs.Element.{wellFormed, frameOf}
+use Rattle.ber.specs.Element.{wellFormed, place, frameOf}
 use Rattle.ber.proofs.HeaderLaws.{Bounds}
 use Rattle.ber.proofs.FrameLaws.{frame-bounds}
 use Rattle.apdu.specs.declared.Number.{Number}
@@ -31,7 +31,7 @@ BodyStands x (some b) = Stands x (b .value)
 
 -- the value of an APDU stands in x
 abbrev pub ApduStands : List ℕ → Apdu → Type 0
-ApduStands x badlyStructured = Unit {0}
+ApduStands x (badlyStructured at) = Unit {0}
 ApduStands x unrecognized = Unit {0}
 ApduStands x (mistyped i) = Unit {0}
 ApduStands x (invoke i l c v) = ValueStands x v
@@ -138,4 +138,4 @@ module _ (x : List ℕ) where
 
   pub parse-stands : ApduStands x (parse x)
   unfolding parse
-  parse-stands = cond-elim (ApduStands x) (wellFormed levels x) (parseAt x (frameOf x)) badlyStructured (λ _. parse-at (frameOf x) refl) (λ _. tt)
+  parse-stands = cond-elim (ApduStands x) (wellFormed levels x) (parseAt x (frameOf x)) (badlyStructured (place levels x)) (λ _. parse-at (frameOf x) refl) (λ _. tt)

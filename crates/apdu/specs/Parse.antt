@@ -11,7 +11,7 @@ use Rattle.ber.specs.declared.element.Frame.the-variants.{Of as FrameOf, NoFram
 use Rattle.ber.specs.declared.integer.Integer.{Integer}
 use Rattle.ber.specs.declared.integer.Integer.the-variants.{Of as IntegerOf, NoInteger}
 use Rattle.ber.specs.Integer.{integerOf}
-use Rattle.ber.specs.Element.{wellFormed, frameOf}
+use Rattle.ber.specs.Element.{wellFormed, place, frameOf}
 use Rattle.apdu.specs.declared.Number.{Number}
 use Rattle.apdu.specs.declared.Number.the-variants.{Of, Absent}
 use Rattle.apdu.specs.declared.CodeField.{CodeField}
@@ -31,7 +31,7 @@ bodyValue (some b) = some (b .value)
 -- ids are 32-bit patterns; a value is a part of the lent octets; no value and no linked id are none
 pub data Apdu : Type 0 where
   -- not well formed: general 2
-  badlyStructured : Apdu
+  badlyStructured : ℕ → Apdu
   -- first octet not A1 to A4: general 0
   unrecognized : Apdu
   -- fields wrong: general 1, with the id that a Reject to it carries
@@ -179,9 +179,9 @@ byKind t fs = cond (leb 0xA1 t && leb t 0xA3) (withId t fs) (cond (eqb t 0xA4) (
 
 -- the element in this frame: the fields among its contents, by its first octet
 unfoldable pub parseAt : List ℕ → Frame → Apdu
-parseAt x NoFrame = badlyStructured
+parseAt x NoFrame = badlyStructured (place levels x)
 parseAt x (FrameOf id a e) = byKind id (fields (levels - 1) (partOf x a e))
 
 -- an APDU is one element filling the input
 unfoldable pub parse : List ℕ → Apdu
-parse x = cond (wellFormed levels x) (parseAt x (frameOf x)) badlyStructured
+parse x = cond (wellFormed levels x) (parseAt x (frameOf x)) (badlyStructured (place levels x))

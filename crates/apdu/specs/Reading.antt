@@ -47,7 +47,7 @@ readBody s NoBody = none
 -- ---- what parse answers
 
 unfoldable pub readParsed : List ℕ → Parsed → Apdu
-readParsed s BadlyStructured = badlyStructured
+readParsed s (BadlyStructured at) = badlyStructured at
 readParsed s Unrecognized = unrecognized
 readParsed s (Mistyped i) = mistyped i
 readParsed s (Invoke i l c v) = invoke (i .0) (readOwnLink l) c (readValue s v)

@@ -8,6 +8,8 @@ use Rattle.ber.specs.declared.header.Header.{Header}
 use Rattle.ber.specs.declared.header.Header.the-variants.{At, Open, NoHeader}
 use Rattle.ber.specs.declared.element.Frame.{Frame}
 use Rattle.ber.specs.declared.element.Frame.the-variants.{Of as FrameOf, NoFrame}
+use Rattle.ber.specs.declared.element.Finding.{Finding}
+use Rattle.ber.specs.declared.element.Finding.the-variants.{One, More, Fault}
 use Rattle.ber.specs.Header.{headerOf}
 use Rattle.ber.specs.Integer.{octetCount}
 use Rattle.ber.specs.Element.{contentsOf, frameOf}
@@ -86,7 +88,7 @@ idIn s (FrameOf id a n) = numberUnder 0x02 id (part s a n)
 
 -- fields are wrong, or the first octet is: whether the octets are well formed decides what it is
 unfoldable pub unsettled : Apdu → Bool
-unsettled badlyStructured = false
+unsettled (badlyStructured at) = false
 unsettled unrecognized = true
 unsettled (mistyped i) = true
 unsettled (invoke i l c v) = false
@@ -94,9 +96,14 @@ unsettled (result i b) = false
 unsettled (error i c v) = false
 unsettled (reject i k p) = false
 
-unfoldable pub settle : Bool → Apdu → Apdu
-settle true a = a
-settle false a = cond (unsettled a) badlyStructured a
+-- what was read, by what the octets are found to be
+unfoldable pub judge : Finding → Apdu → Apdu
+judge One a = a
+judge (More at) a = badlyStructured at
+judge (Fault at) a = badlyStructured at
+
+unfoldable pub settle : Finding → Apdu → Apdu
+settle f a = cond (unsettled a) (judge f a) a
 
 -- r reads as a where the octets are well formed, and is unsettled elsewhere
 pub record Reading (s : List ℕ) (well : Bool) (r : Parsed) (a : Apdu) : Type 0 where

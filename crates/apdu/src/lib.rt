@@ -52,7 +52,7 @@ pub enum Body {
 
 // What a received APDU says, with places in the lent octets and each id by its side.
 pub enum Parsed {
-    BadlyStructured,
+    BadlyStructured { at: usize },
     Unrecognized,
     Mistyped(Number),
     Invoke {

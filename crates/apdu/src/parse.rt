@@ -13,9 +13,10 @@ use crate::field::linked_id;
 use crate::field::number_under;
 use crate::reject::reject;
 use base::octets::between;
+use ber::element::Finding;
 use ber::element::Frame;
+use ber::element::finding_in;
 use ber::element::frame_of;
-use ber::element::well_formed;
 use records::OwnId;
 use records::PeerId;
 use records::State;
@@ -24,12 +25,12 @@ ghost use mathlib.Core.List.{List};
 ghost use Prim.Native.Nat.{ℕ, _-_};
 ghost use Rattle.base.specs.Octets.{part};
 ghost use Rattle.records.specs.Limits.{levels};
-ghost use Rattle.ber.specs.Element.{insideOf, makesElement, wellFormed};
+ghost use Rattle.ber.specs.Element.{insideOf, makesElement, findingIn};
 ghost use Rattle.apdu.specs.declared.Number.the-variants.{Of};
 ghost use Rattle.apdu.specs.Field.{partOf, fields};
 ghost use Rattle.apdu.specs.Parse.{bodyValue, mistyped, resultWith, resultBehind, errorBehind, behindId, withId, byKind, parse};
 ghost use Rattle.apdu.specs.Reading.{readValue, readBody, readParsed};
-ghost use Rattle.apdu.specs.Steps.{fieldAt, guarded, readCoded, codedIn, invokeIn, idIn, Reading, settle};
+ghost use Rattle.apdu.specs.Steps.{fieldAt, guarded, readCoded, codedIn, invokeIn, idIn, Reading, judge, settle};
 
 // A1, behind the id.
 fn invoke(s: &[u8], id: PeerId, at: usize, end: usize) -> Parsed
@@ -149,23 +150,24 @@ fn by_kind(s: &[u8], first: u8, at: usize, end: usize) -> Parsed
     Parsed::Unrecognized
 }
 
+// What was read, if the octets are well formed; else where they are at fault.
+fn judged(apdu: &[u8], r: Parsed) -> Parsed
+    ensures { λ x. ⌜ readParsed (now (apdu .entry)) x ≡ judge (findingIn levels (now (apdu .entry))) (readParsed (now (apdu .entry)) r) ⌝ }
+{
+    match finding_in(apdu, State::LEVELS) {
+        Finding::One => r,
+        Finding::More { at } => Parsed::BadlyStructured { at },
+        Finding::Fault { at } => Parsed::BadlyStructured { at },
+    }
+}
+
 // What was read, of octets that may not be well formed where fields are wrong: only then are they walked once more.
 fn settled(apdu: &[u8], r: Parsed) -> Parsed
-    ensures { λ x. ⌜ readParsed (now (apdu .entry)) x ≡ settle (wellFormed levels (now (apdu .entry))) (readParsed (now (apdu .entry)) r) ⌝ }
+    ensures { λ x. ⌜ readParsed (now (apdu .entry)) x ≡ settle (findingIn levels (now (apdu .entry))) (readParsed (now (apdu .entry)) r) ⌝ }
 {
     match r {
-        Parsed::Mistyped(n) => {
-            if well_formed(apdu, State::LEVELS) {
-                return Parsed::Mistyped(n);
-            }
-            Parsed::BadlyStructured
-        }
-        Parsed::Unrecognized => {
-            if well_formed(apdu, State::LEVELS) {
-                return Parsed::Unrecognized;
-            }
-            Parsed::BadlyStructured
-        }
+        Parsed::Mistyped(_) => judged(apdu, r),
+        Parsed::Unrecognized => judged(apdu, r),
         _ => r,
     }
 }
@@ -175,7 +177,7 @@ pub fn parse(apdu: &[u8]) -> Parsed
     ensures { λ r. ⌜ readParsed (now (apdu .entry)) r ≡ parse (now (apdu .entry)) ⌝ }
 {
     match frame_of(apdu) {
-        Frame::NoFrame => Parsed::BadlyStructured,
+        Frame::NoFrame => judged(apdu, Parsed::Unrecognized),
         Frame::Of { id, start, stop } => settled(apdu, by_kind(apdu, id, start, stop)),
     }
 }
