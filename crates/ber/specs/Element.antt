@@ -123,6 +123,16 @@ isOne One = true
 isOne (More at) = false
 isOne (Fault at) = false
 
+abbrev pub isMore : Finding → Bool
+isMore One = false
+isMore (More at) = true
+isMore (Fault at) = false
+
+abbrev pub isFault : Finding → Bool
+isFault One = false
+isFault (More at) = false
+isFault (Fault at) = true
+
 -- octets behind the element count last, at the first of them
 unfoldable pub placeIn : Finding → ℕ
 placeIn One = 0

@@ -28,7 +28,7 @@ valueOctets (some v) = v .octets
 
 -- the request that would write a sent APDU: a result's code is no argument of it, a Reject is a user's only with 81 and an id; what no request can write fits no call
 unfoldable pub requestOf : Apdu → Option Call
-requestOf (badlyStructured at) = none
+requestOf (badlyStructured p) = none
 requestOf unrecognized = none
 requestOf (mistyped i) = none
 requestOf (Invoke i l (Local c) v) = some (invoke i c l (valueOctets v) octets)

@@ -61,7 +61,7 @@ module _ (O N : List ℕ) where
   kept-in : (w : World) (x : List ℕ) (room : ℕ) (p : Apdu) → parse x ≡ p → In (wired kiosk x) (w .book .wire) → Steady N (w .controller) → Kept N w
       → Kept N (after O w (at controller (receive x room)) (receiveApdu N (w .controller) x p))
   unfolding receiveApdu
-  kept-in w x room (badlyStructured at) e m s k = kept-refused O N w controller (receive x room) (fault x 2 Absent) k
+  kept-in w x room (badlyStructured p) e m s k = kept-refused O N w controller (receive x room) (fault x 2 Absent) k
   kept-in w x room unrecognized e m s k = kept-refused O N w controller (receive x room) (fault x 0 Absent) k
   kept-in w x room (mistyped i) e m s k = kept-refused O N w controller (receive x room) (fault x 1 i) k
   kept-in w x room (Invoke i l c v) e m s k =

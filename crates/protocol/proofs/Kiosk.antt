@@ -87,7 +87,7 @@ module _ (O N : List ℕ) where
 
   kept-in : (w : World) (x : List ℕ) (room : ℕ) (p : Apdu) → parse x ≡ p → Kept N w → Kept N (after O w (at kiosk (receive x room)) (receiveApdu O (w .kiosk) x p))
   unfolding receiveApdu
-  kept-in w x room (badlyStructured at) e k = kept-refused w kiosk (receive x room) (fault x 2 Absent) k
+  kept-in w x room (badlyStructured p) e k = kept-refused w kiosk (receive x room) (fault x 2 Absent) k
   kept-in w x room unrecognized e k = kept-refused w kiosk (receive x room) (fault x 0 Absent) k
   kept-in w x room (mistyped i) e k = kept-refused w kiosk (receive x room) (fault x 1 i) k
   kept-in w x room (Invoke i l c v) e k =

@@ -14,7 +14,7 @@ use borrow.Author.Tests.{leb-true}
 use Rattle.records.specs.declared.Code.{Code}
 use Rattle.records.specs.Limits.{octets, levels}
 use Rattle.ber.specs.declared.element.Checked.{Checked}
-use Rattle.ber.specs.declared.element.Checked.the-variants.{Good, NoElement}
+use Rattle.ber.specs.declared.element.Checked.the-variants.{Good, Wrong}
 use Rattle.ber.specs.declared.header.Header.the-variants.{At}
 use Rattle.ber.specs.Header.{oneOf, constructed, headerOf}
 use Rattle.ber.specs.Rule.{contentRule}
@@ -46,7 +46,7 @@ contents-one d v h one = go (elementOf d v) refl
         let q = good-size d v n e in
         let o = one n q in
         contents-cons d v n q ∙ ap (λ (k : ℕ). contentsOf d (drop k v)) o ∙ ap (contentsOf d) (drop-all v) ∙ contents-none d ∙ sym (size-well-formed d v (rw o at q))
-    go NoElement e = contents-fault d v h e ∙ sym (ap (fills (length v)) (fault-size d v e))
+    go (Wrong p) e = contents-fault d v p h e ∙ sym (ap (fills (length v)) (fault-size d v p e))
 
 -- a value that is one element with some levels is one with fewer, or no contents
 value-contents : (d k : ℕ) (v : List ℕ) → wellFormed (d + k) v ≡ true → contentsOf d v ≡ wellFormed d v

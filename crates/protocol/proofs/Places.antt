@@ -25,7 +25,7 @@ ShownStands x (some (rejectedP i p)) = Unit {0}
 module _ (T : List ℕ) (s : State) (x : List ℕ) where
   received-stands : (p : Apdu) → ApduStands x p → ShownStands x (indicatedBy (receiveApdu T s x p))
   unfolding receiveApdu
-  received-stands (badlyStructured at) w = tt
+  received-stands (badlyStructured p) w = tt
   received-stands unrecognized w = tt
   received-stands (mistyped i) w = tt
   received-stands (Invoke i l c v) w = settle (λ a. ShownStands x (indicatedBy a)) (invokeChecks T s i l c v) _ (λ _. tt) (λ _. w)

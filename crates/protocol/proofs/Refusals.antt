@@ -1,4 +1,4 @@
--- Refusals: each has one of document 01's numbers, and one that is no 18 has nothing but its number.
+-- Refusals: each has one of the papers' numbers, and one that is no 18 has nothing but its number.
 use Prim.Native.Nat.{ℕ, _≤_}
 use mathlib.Core.Path.{_≡_, refl}
 use mathlib.Core.List.{List, [], _∷_}
@@ -8,12 +8,12 @@ use denote.Enum.Declared.{tagOf}
 use Rattle.base.proofs.Keys.{no-key}
 use Rattle.protocol.proofs.Refusal as refusal
 use Rattle.protocol.specs.declared.Refusal.{Refusal as Reason}
-use Rattle.protocol.specs.declared.Refusal.the-variants.{InvalidTable, ShortOutput, LongInput, UnknownOperation, IdInUse, SynchronousLive, UnknownLinkedId, NotAChild, MalformedValue, MistypedValue, NoRecord, WrongClass, UnlistedError, RecordsFull, LargeApdu, WrongProblem, UnacceptableReject, Rejected, UnsoundState}
+use Rattle.protocol.specs.declared.Refusal.the-variants.{InvalidTable, ShortOutput, LongInput, UnknownOperation, IdInUse, SynchronousLive, UnknownLinkedId, NotAChild, MalformedValue, MistypedValue, NoRecord, WrongClass, UnlistedError, RecordsFull, LargeApdu, WrongProblem, UnacceptableReject, Rejected, UnsoundState, TrailingOctets}
 use Rattle.protocol.specs.Call.{plain, refusalNumber}
 use Rattle.protocol.specs.Reading.{readRefusal}
 
--- validates `readRefusal`: a refusal carries one of document 01's numbers
-pub numbered : (why : Reason) → (1 ≤ refusalNumber (readRefusal why)) × (refusalNumber (readRefusal why) ≤ 19)
+-- validates `readRefusal`: a refusal carries one of the papers' numbers
+pub numbered : (why : Reason) → (1 ≤ refusalNumber (readRefusal why)) × (refusalNumber (readRefusal why) ≤ 21)
 unfolding readRefusal
 numbered InvalidTable = (lit≤ tt, lit≤ tt)
 numbered ShortOutput = (lit≤ tt, lit≤ tt)
@@ -34,12 +34,13 @@ numbered WrongProblem = (lit≤ tt, lit≤ tt)
 numbered UnacceptableReject = (lit≤ tt, lit≤ tt)
 numbered (Rejected i k p) = (lit≤ tt, lit≤ tt)
 numbered UnsoundState = (lit≤ tt, lit≤ tt)
+numbered TrailingOctets = (lit≤ tt, lit≤ tt)
 
 -- ---- one that has not the tag of an 18
 
 -- the tags of all but an 18, behind the first
 abbrev others : List ℕ
-others = 1 ∷ 2 ∷ 3 ∷ 4 ∷ 5 ∷ 6 ∷ 7 ∷ 8 ∷ 9 ∷ 10 ∷ 11 ∷ 12 ∷ 13 ∷ 14 ∷ 15 ∷ 16 ∷ 18 ∷ []
+others = 1 ∷ 2 ∷ 3 ∷ 4 ∷ 5 ∷ 6 ∷ 7 ∷ 8 ∷ 9 ∷ 10 ∷ 11 ∷ 12 ∷ 13 ∷ 14 ∷ 15 ∷ 16 ∷ 18 ∷ 19 ∷ []
 
 pub only-rejected : (why : Reason) → OneOf (0 ∷ others) (tagOf refusal.the-type why) → readRefusal why ≡ plain (refusalNumber (readRefusal why))
 unfolding readRefusal
@@ -62,3 +63,4 @@ only-rejected WrongProblem h = refl
 only-rejected UnacceptableReject h = refl
 only-rejected (Rejected i k p) h = absurd (no-key 0 others 17 refl h)
 only-rejected UnsoundState h = refl
+only-rejected TrailingOctets h = refl

@@ -30,7 +30,7 @@ use Rattle.protocol.proofs.Invariant.{NoAnswer, ToldResult, ToldError, 
 -- ---- what a received result or error shows, with the record's operation code
 
 abbrev pub readsAs : Apdu → Code → Option Given
-readsAs (badlyStructured at) c = none
+readsAs (badlyStructured p) c = none
 readsAs unrecognized c = none
 readsAs (mistyped i) c = none
 readsAs (Invoke i l d v) c = none
@@ -50,7 +50,7 @@ record Reads (p : Apdu) (c : Code) (g : Given) : Type 0 where
   kind : (kindOctet p ≡ 0xA2) ⊎ (kindOctet p ≡ 0xA3)
 
 reads-facts : (p : Apdu) (c : Code) (g : Given) → readsAs p c ≡ some g → Reads p c g
-reads-facts (badlyStructured at) c g e = none-given e
+reads-facts (badlyStructured p) c g e = none-given e
 reads-facts unrecognized c g e = none-given e
 reads-facts (mistyped i) c g e = none-given e
 reads-facts (Invoke i l d v) c g e = none-given e
@@ -87,7 +87,7 @@ record Shows (s : State) (p : Apdu) (g : Given) : Type 0 where
 
 shows-in : (O : List ℕ) (s : State) (x : List ℕ) (p : Apdu) (g : Given) → shownBy (indicatedBy (receiveApdu O s x p)) ≡ some g → Shows s p g
 unfolding receiveApdu
-shows-in O s x (badlyStructured at) g h = none-given h
+shows-in O s x (badlyStructured p) g h = none-given h
 shows-in O s x unrecognized g h = none-given h
 shows-in O s x (mistyped i) g h = none-given h
 shows-in O s x (Invoke i l c v) g h =

@@ -100,7 +100,7 @@ module _ (T : List ℕ) where
 
   steady-received : (s : State) (x : List ℕ) (p : Apdu) → Steady s → Steady (stateAfter s (receiveApdu T s x p))
   unfolding receiveApdu
-  steady-received s x (badlyStructured at) h = h
+  steady-received s x (badlyStructured p) h = h
   steady-received s x unrecognized h = h
   steady-received s x (mistyped i) h = h
   steady-received s x (Invoke i l c v) h =
@@ -151,7 +151,7 @@ module _ (T : List ℕ) where
 
     received-gives : (s : State) (x : List ℕ) (p : Apdu) → gives n (receiveApdu T s x p) ≡ false
     unfolding receiveApdu invokeChecks resultChecks errorChecks
-    received-gives s x (badlyStructured at) = fault-gives x 2 Absent
+    received-gives s x (badlyStructured p) = fault-gives x 2 Absent
     received-gives s x unrecognized = fault-gives x 0 Absent
     received-gives s x (mistyped i) = fault-gives x 1 i
     received-gives s x (Invoke i l c v) = never-given n (invokeChecks T s i l c v) _ (rw n18) refl

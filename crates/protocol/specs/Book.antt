@@ -103,7 +103,7 @@ asking controller c asked = asked
 
 -- heard: id and code of each Invoke the controller's receive accepted
 abbrev pub hearingOf : Apdu → List Record → List Record
-hearingOf (badlyStructured at) heard = heard
+hearingOf (badlyStructured p) heard = heard
 hearingOf unrecognized heard = heard
 hearingOf (mistyped i) heard = heard
 hearingOf (Invoke i l c v) heard = heard ++ (record { id = i; code = fieldCode c } ∷ [])
@@ -132,7 +132,7 @@ giving heard controller (forget side i) x l = l
 
 -- live: an id leaves when the kiosk accepts a result, an error or an invoke problem Reject with that id
 abbrev pub leavingBy : Apdu → List ℕ → List ℕ
-leavingBy (badlyStructured at) l = l
+leavingBy (badlyStructured p) l = l
 leavingBy unrecognized l = l
 leavingBy (mistyped i) l = l
 leavingBy (Invoke i k c v) l = l

@@ -1,10 +1,13 @@
--- The six calls and what one answers: document 01, 'What is built' and 'Requests'.
+-- The six calls and what one answers: document 01, 'What is built' and 'Requests', and document 02's request Four, the place of a fault.
 use Prim.Native.Nat.{ℕ}
-use mathlib.Core.Bool.{Bool, true, false}
+use mathlib.Core.Bool.{Bool, true, false, cond, _&&_, _||_}
 use mathlib.Core.List.{List, []}
 use mathlib.Core.Option.{Option, none}
+use lib.Dec.{eqb}
 use Rattle.records.specs.declared.Code.{Code}
 use Rattle.records.specs.declared.State.{State}
+use Rattle.records.specs.Limits.{levels}
+use Rattle.ber.specs.Element.{place}
 use Rattle.apdu.specs.declared.Number.{Number}
 use Rattle.apdu.specs.Field.{Part}
 use Rattle.apdu.specs.Parse.{CodedValue}
@@ -43,7 +46,7 @@ pub data Indication : Type 0 where
   -- RO-REJECT-P: id, the general problem
   rejectedP : Number → ℕ → Indication
 
--- a refusal: one of document 01's numbers; 18 also returns the problem's kind and number, and the id that its Reject carries
+-- a refusal: one of the papers' numbers; 18 also returns the problem's kind and number, and the id that its Reject carries
 pub data Refusal : Type 0 where
   plain : ℕ → Refusal
   rejecting : Number → ℕ → ℕ → Refusal
@@ -73,6 +76,16 @@ indicatedBy (refused r) = none
 abbrev pub writtenBy : Answer → List ℕ
 writtenBy (accepted i s x) = x
 writtenBy (refused r) = rejectWritten r
+
+-- the refusals that name a place in the octets that a call was given: general 2, 9, 17 and 21
+abbrev pub namesPlace : Refusal → Bool
+namesPlace (plain n) = eqb n 9 || (eqb n 17 || eqb n 21)
+namesPlace (rejecting i kind problem) = eqb kind 0x80 && eqb problem 2
+
+-- the place that an answer names is that of the first fault in these octets; every other answer has 0
+unfoldable pub placeNamed : List ℕ → Answer → ℕ
+placeNamed x (accepted i s w) = 0
+placeNamed x (refused r) = cond (namesPlace r) (place levels x) 0
 
 -- a refusal hands back the same records
 abbrev pub stateAfter : State → Answer → State

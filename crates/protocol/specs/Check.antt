@@ -13,7 +13,9 @@ use Rattle.records.specs.declared.Found.the-variants.{Operation, Nothing}
 use Rattle.records.specs.Limits.{octets, levels, records}
 use Rattle.records.specs.Records.{view, lookup}
 use Rattle.records.specs.State.{soundState}
-use Rattle.ber.specs.Element.{wellFormed}
+use Rattle.ber.specs.declared.element.Finding.{Finding}
+use Rattle.ber.specs.declared.element.Finding.the-variants.{One}
+use Rattle.ber.specs.Element.{wellFormed, findingIn}
 use Rattle.optable.specs.Validity.{valid}
 use Rattle.optable.specs.Lookup.{operationOf, listed, classOf}
 use Rattle.apdu.specs.declared.Number.{Number}
@@ -99,7 +101,12 @@ linkedTo (Of i) = i
 
 -- ---- values and APDUs
 
--- refusal 9: one well-formed element, or none; with so many levels left
+-- what a value is, which should be one well-formed element or none, with so many levels left: refusals 9 and 21
+unfoldable pub valueFinding : ℕ → Option (List ℕ) → Finding
+valueFinding d none = One
+valueFinding d (some v) = findingIn d v
+
+-- one well-formed element, or none
 unfoldable pub valueWell : ℕ → Option (List ℕ) → Bool
 valueWell d none = true
 valueWell d (some v) = wellFormed d v
@@ -111,7 +118,7 @@ inApdu = 1
 abbrev pub inBody : ℕ
 inBody = 2
 
--- refusal 15: an APDU x within 4,096 octets and 16 levels, whose value stands so many levels down. Where 9 passes this is so exactly
+-- refusal 15: an APDU x within 4,096 octets and 16 levels, whose value stands so many levels down. Where 9 and 21 pass this is so exactly
 -- where x has at most 4,096 octets and is well-formed with 16 levels: proofs/Levels.antt, `invoke-within`, `result-within`, `error-within`
 unfoldable pub withinLimits : ℕ → Option (List ℕ) → List ℕ → Bool
 withinLimits down v x = leb (length x) octets && valueWell (levels - down) v

@@ -1,4 +1,4 @@
--- The six calls as ordered checks and what is answered when all pass: document 01, 'Receiving' and 'Requests, in order of check'.
+-- The six calls as ordered checks and what is answered when all pass: document 01, 'Receiving' and 'Requests, in order of check', with document 02's 21.
 use Prim.Native.Nat.{ℕ}
 use mathlib.Core.Bool.{Bool, cond, not, _&&_, _||_}
 use mathlib.Core.List.{List, [], _∷_, _++_}
@@ -12,12 +12,13 @@ use Rattle.records.specs.Records.{member}
 use Rattle.records.specs.State.{addOwn, retireOwn, retirePeer}
 use Rattle.optable.specs.Lookup.{operationOf, listed, argumentOf, resultOf, errorOf, known, parameterOf, paired, childOf}
 use Rattle.optable.specs.Value.{valueRight}
+use Rattle.ber.specs.Element.{isMore, isFault}
 use Rattle.apdu.specs.declared.Number.the-variants.{Of}
 use Rattle.apdu.specs.Parse.{parse}
 use Rattle.base.specs.Lists.{nonEmpty}
 use Rattle.apdu.specs.Encode.{encodeInvoke, encodeResult, encodeError, encodeReject}
 use Rattle.protocol.specs.Call.{own, peer, Call, receive, invoke, result, error, reject, forget, Answer, accepted}
-use Rattle.protocol.specs.Check.{Check, _⇐_, answer, shared, ownRecords, peerRecords, codeIn, isFull, classIn, isSilent, isClass, isBusy, isLinked, linkedTo, valueWell, inApdu, inBody, withinLimits, leastRoom, tooShort}
+use Rattle.protocol.specs.Check.{Check, _⇐_, answer, shared, ownRecords, peerRecords, codeIn, isFull, classIn, isSilent, isClass, isBusy, isLinked, linkedTo, valueFinding, inApdu, inBody, withinLimits, leastRoom, tooShort}
 use Rattle.protocol.specs.Receive.{receiveApdu}
 
 -- 2, 3 or 4 of the invoke problems
@@ -28,39 +29,42 @@ isUserProblem p = eqb p 2 || (eqb p 3 || eqb p 4)
 abbrev pub resultApdu : State → ℕ → List ℕ → List ℕ
 resultApdu s i v = encodeResult i (codeIn (peerRecords s) i) (nonEmpty v)
 
--- ---- the checks of each call behind 19 and 1, in document 01's order
+-- ---- the checks of each call behind 19 and 1, in document 01's order, 21 directly after 9
 
 unfoldable pub laterChecks : List ℕ → State → Call → List Check
 -- Receive: 19, 1, 3, 2
 laterChecks T s (receive x room) = (3 ⇐ ltb octets (length x)) ∷ (2 ⇐ ltb room leastRoom) ∷ []
--- Invoke: 19, 1, 4, 5, 6, 7, 8, 9, 10, 14, 15, 2
+-- Invoke: 19, 1, 4, 5, 6, 7, 8, 9, 21, 10, 14, 15, 2
 laterChecks T s (invoke i c l v room) =
     (4 ⇐ not (listed (operationOf T c)))
     ∷ (5 ⇐ member i (ownRecords s))
     ∷ (6 ⇐ isBusy T (ownRecords s))
     ∷ (7 ⇐ (isLinked l && not (member (linkedTo l) (peerRecords s))))
     ∷ (8 ⇐ (isLinked l && not (childOf T (codeIn (peerRecords s) (linkedTo l)) c)))
-    ∷ (9 ⇐ not (valueWell levels (nonEmpty v)))
+    ∷ (9 ⇐ isFault (valueFinding levels (nonEmpty v)))
+    ∷ (21 ⇐ isMore (valueFinding levels (nonEmpty v)))
     ∷ (10 ⇐ not (valueRight (argumentOf (operationOf T c)) (nonEmpty v)))
     ∷ (14 ⇐ (not (isSilent T c) && isFull (ownRecords s)))
     ∷ (15 ⇐ not (withinLimits inApdu (nonEmpty v) (encodeInvoke i l c (nonEmpty v))))
     ∷ (2 ⇐ tooShort room (encodeInvoke i l c (nonEmpty v)))
     ∷ []
--- Result: 19, 1, 11, 12, 9, 10, 15, 2
+-- Result: 19, 1, 11, 12, 9, 21, 10, 15, 2
 laterChecks T s (result i v room) =
     (11 ⇐ not (member i (peerRecords s)))
     ∷ (12 ⇐ isClass 3 5 (classIn T (codeIn (peerRecords s) i)))
-    ∷ (9 ⇐ not (valueWell levels (nonEmpty v)))
+    ∷ (9 ⇐ isFault (valueFinding levels (nonEmpty v)))
+    ∷ (21 ⇐ isMore (valueFinding levels (nonEmpty v)))
     ∷ (10 ⇐ not (valueRight (resultOf (operationOf T (codeIn (peerRecords s) i))) (nonEmpty v)))
     ∷ (15 ⇐ not (withinLimits inBody (nonEmpty v) (resultApdu s i v)))
     ∷ (2 ⇐ tooShort room (resultApdu s i v))
     ∷ []
--- Error: 19, 1, 11, 12, 13, 9, 10, 15, 2
+-- Error: 19, 1, 11, 12, 13, 9, 21, 10, 15, 2
 laterChecks T s (error i e v room) =
     (11 ⇐ not (member i (peerRecords s)))
     ∷ (12 ⇐ isClass 4 5 (classIn T (codeIn (peerRecords s) i)))
     ∷ (13 ⇐ not (known (errorOf T e) && paired T (codeIn (peerRecords s) i) e))
-    ∷ (9 ⇐ not (valueWell levels (nonEmpty v)))
+    ∷ (9 ⇐ isFault (valueFinding levels (nonEmpty v)))
+    ∷ (21 ⇐ isMore (valueFinding levels (nonEmpty v)))
     ∷ (10 ⇐ not (valueRight (parameterOf (errorOf T e)) (nonEmpty v)))
     ∷ (15 ⇐ not (withinLimits inApdu (nonEmpty v) (encodeError i e (nonEmpty v))))
     ∷ (2 ⇐ tooShort room (encodeError i e (nonEmpty v)))

@@ -11,7 +11,7 @@ use Rattle.protocol.specs.declared.Invocation.the-variants.{Own, Peer}
 use Rattle.protocol.specs.declared.Indication.{Indication as Indicated}
 use Rattle.protocol.specs.declared.Indication.the-variants.{Invoke, Result, Error, InvokeRejected, ResultRejected, ErrorRejected, GeneralReject}
 use Rattle.protocol.specs.declared.Refusal.{Refusal as Reason}
-use Rattle.protocol.specs.declared.Refusal.the-variants.{InvalidTable, ShortOutput, LongInput, UnknownOperation, IdInUse, SynchronousLive, UnknownLinkedId, NotAChild, MalformedValue, MistypedValue, NoRecord, WrongClass, UnlistedError, RecordsFull, LargeApdu, WrongProblem, UnacceptableReject, Rejected, UnsoundState}
+use Rattle.protocol.specs.declared.Refusal.the-variants.{InvalidTable, ShortOutput, LongInput, UnknownOperation, IdInUse, SynchronousLive, UnknownLinkedId, NotAChild, MalformedValue, MistypedValue, NoRecord, WrongClass, UnlistedError, RecordsFull, LargeApdu, WrongProblem, UnacceptableReject, Rejected, UnsoundState, TrailingOctets}
 use Rattle.protocol.specs.declared.Problem.{Problem}
 use Rattle.protocol.specs.declared.Reception.{Reception}
 use Rattle.protocol.specs.declared.Reception.the-variants.{Indicated as Accepting, Refused as Refusing}
@@ -19,7 +19,7 @@ use Rattle.protocol.specs.declared.Received.{Received}
 use Rattle.protocol.specs.declared.Outcome.{Outcome}
 use Rattle.protocol.specs.declared.Outcome.the-variants.{Accepted, Refused}
 use Rattle.protocol.specs.declared.Requested.{Requested}
-use Rattle.protocol.specs.Call.{Call, own, peer, forget, Indication, invoked, resulted, erred, rejectedU, rejectedP, Refusal, plain, rejecting, Answer, accepted, refused, writtenBy, stateAfter}
+use Rattle.protocol.specs.Call.{Call, own, peer, forget, Indication, invoked, resulted, erred, rejectedU, rejectedP, Refusal, plain, rejecting, Answer, accepted, refused, writtenBy, placeNamed, stateAfter}
 
 -- ---- ids
 
@@ -61,6 +61,7 @@ readRefusal WrongProblem = plain 16
 readRefusal UnacceptableReject = plain 17
 readRefusal (Rejected i kind p) = rejecting i kind p
 readRefusal UnsoundState = plain 19
+readRefusal TrailingOctets = plain 21
 
 -- 18 also returns the problem's kind and number; another refusal has 0, 0
 abbrev pub refusalProblem : Refusal → Problem
@@ -77,7 +78,8 @@ unfoldable pub readOutcome : Outcome → State → List ℕ → Answer
 readOutcome Accepted s w = accepted none s w
 readOutcome (Refused r) s w = refused (readRefusal r)
 
--- ---- promises: the answer a is given, with the state after it, and the output is what a writes, then what stood behind
+-- ---- promises: the answer a is given, with the state after it and the place that it names in the octets x that the call was given, and the
+-- output is what a writes, then what stood behind
 
 pub record Written (a : Answer) (before after : List ℕ) (count : ℕ) : Type 0 where
   pub octets : after ≡ writtenBy a ++ drop (length (writtenBy a)) before
@@ -87,8 +89,10 @@ pub record ReceivePromise (a : Answer) (s : State) (x before after : List ℕ) (
   pub answers : readReception x (r .reception) (stateAfter s a) (writtenBy a) ≡ a
   pub state : r .state ≡ stateAfter s a
   pub written : Written a before after (r .written)
+  pub place : r .place ≡ placeNamed x a
 
-pub record RequestPromise (a : Answer) (s : State) (before after : List ℕ) (r : Requested) : Type 0 where
+pub record RequestPromise (a : Answer) (s : State) (x before after : List ℕ) (r : Requested) : Type 0 where
   pub answers : readOutcome (r .outcome) (stateAfter s a) (writtenBy a) ≡ a
   pub state : r .state ≡ stateAfter s a
   pub written : Written a before after (r .written)
+  pub place : r .place ≡ placeNamed x a

@@ -120,7 +120,7 @@ rejection (Of i) kind p = cond (eqb kind 0x80) (rejectedP (Of i) p) (rejectedU i
 -- ---- by kind; an accepted result or error retires exactly the own record of its id
 
 unfoldable pub receiveApdu : List ℕ → State → List ℕ → Apdu → Answer
-receiveApdu T s x (badlyStructured at) = refused (fault x 2 Absent)
+receiveApdu T s x (badlyStructured p) = refused (fault x 2 Absent)
 receiveApdu T s x unrecognized = refused (fault x 0 Absent)
 receiveApdu T s x (mistyped i) = refused (fault x 1 i)
 receiveApdu T s x (invoke i l c v) =

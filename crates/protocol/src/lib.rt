@@ -58,7 +58,7 @@ pub enum Indication {
     },
 }
 
-// Why a call was refused, in the order of document 01's numbers 1 to 19.
+// Why a call was refused, in the order of the papers' numbers: 1 to 19, and 21.
 pub enum Refusal {
     InvalidTable,
     ShortOutput,
@@ -80,6 +80,8 @@ pub enum Refusal {
     // The Reject with these fields stands at the front of the output.
     Rejected { id: Number, kind: u8, problem: u8 },
     UnsoundState,
+    // One well-formed element, and then more octets.
+    TrailingOctets,
 }
 
 // A problem of a Reject: its kind, 80 general, 81 invoke, 82 result or 83 error (hexadecimal), and its number within the kind.
@@ -89,7 +91,7 @@ pub struct Problem {
 }
 
 impl Refusal {
-    // Document 01's number, 1 to 19.
+    // The papers' number: 1 to 19, or 21.
     pub fn number(self) -> u8
         ensures { λ r. ⌜ r ≡ refusalNumber (readRefusal self) ⌝ }
     {
@@ -117,6 +119,7 @@ impl Refusal {
                 problem: _,
             } => 18,
             Refusal::UnsoundState => 19,
+            Refusal::TrailingOctets => 21,
         }
     }
 
@@ -143,11 +146,13 @@ pub enum Reception {
     Refused(Refusal),
 }
 
-// What receive answers: the state then, the indication or refusal, and how many octets of the output were written.
+// What receive answers: the state then, the indication or refusal, how many octets of the output were written, and where the received
+// octets are at fault, for a general problem 2 or a 17; else 0.
 pub struct Received {
     pub state: State,
     pub reception: Reception,
     pub written: usize,
+    pub place: usize,
 }
 
 pub enum Outcome {
@@ -155,9 +160,11 @@ pub enum Outcome {
     Refused(Refusal),
 }
 
-// What a request or forget answers: the state then, and how many octets of the output were written.
+// What a request or forget answers: the state then, how many octets of the output were written, and where the value is at fault, for a 9
+// or a 21; else 0.
 pub struct Requested {
     pub state: State,
     pub outcome: Outcome,
     pub written: usize,
+    pub place: usize,
 }

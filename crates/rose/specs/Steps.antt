@@ -137,7 +137,7 @@ foundBy (Of i) l = lookup i l
 
 -- the own record that a received APDU leads to: the parent of an Invoke, the invocation of a Result or an Error
 abbrev pub leadsTo : Apdu → List Record → Found
-leadsTo (badlyStructured at) l = Nothing
+leadsTo (badlyStructured p) l = Nothing
 leadsTo unrecognized l = Nothing
 leadsTo (mistyped i) l = Nothing
 leadsTo (invoke i n c v) l = foundBy n l
