@@ -79,7 +79,7 @@ unfolding judge
 judged-right x a q = ap (λ (f : Finding). judge f a) (finding-one levels x q)
 
 judged-wrong : (x : List ℕ) (a : Apdu) → wellFormed levels x ≡ false → judge (findingIn levels x) a ≡ badlyStructured (place levels x)
-unfolding judge placeIn
+unfolding judge
 judged-wrong x a q = go (findingIn levels x) (well-formed-finding levels x ∙ q)
   where
     go : (f : Finding) → isOne f ≡ false → judge f a ≡ badlyStructured (placeIn f)

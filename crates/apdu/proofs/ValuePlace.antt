@@ -1,4 +1,4 @@
--- A value that is read stands at its place in the lent octets, within them, so that a caller may take it from there.
+-- A value that is read stands at its place in the lent octets, within them, so that a caller may take it from there; and so does the first fault.
 use Prim.Native.Nat.{ℕ, _-_}
 use mathlib.Core.Path.{_≡_, refl}
 use mathlib.Core.List.{List, [], _∷_}
@@ -29,9 +29,9 @@ abbrev pub BodyStands : List ℕ → Option CodedValue → Type 0
 BodyStands x none = Unit {0}
 BodyStands x (some b) = Stands x (b .value)
 
--- the value of an APDU stands in x
+-- the value of an APDU stands in x, and the place of a fault is that of the first one in x
 abbrev pub ApduStands : List ℕ → Apdu → Type 0
-ApduStands x (badlyStructured at) = Unit {0}
+ApduStands x (badlyStructured at) = at ≡ place levels x
 ApduStands x unrecognized = Unit {0}
 ApduStands x (mistyped i) = Unit {0}
 ApduStands x (invoke i l c v) = ValueStands x v
@@ -131,11 +131,11 @@ module _ (x : List ℕ) where
 
   parse-at : (h : Frame) → frameOf x ≡ h → ApduStands x (parseAt x h)
   unfolding parseAt
-  parse-at NoFrame q = tt
+  parse-at NoFrame q = refl
   parse-at (FrameOf id a e) q =
       let b : Bounds x id a e = frame-bounds x id a e q in
       by-kind id (fields (levels - 1) (partOf x a e)) (fields-stand x (levels - 1) (partOf x a e) (record { octets = refl; ordered = b .order; within = b .within }))
 
   pub parse-stands : ApduStands x (parse x)
   unfolding parse
-  parse-stands = cond-elim (ApduStands x) (wellFormed levels x) (parseAt x (frameOf x)) (badlyStructured (place levels x)) (λ _. parse-at (frameOf x) refl) (λ _. tt)
+  parse-stands = cond-elim (ApduStands x) (wellFormed levels x) (parseAt x (frameOf x)) (badlyStructured (place levels x)) (λ _. parse-at (frameOf x) refl) (λ _. refl)

@@ -52,7 +52,9 @@ pub enum Body {
 
 // What a received APDU says, with places in the lent octets and each id by its side.
 pub enum Parsed {
-    BadlyStructured { at: usize },
+    BadlyStructured {
+        at: usize,
+    },
     Unrecognized,
     Mistyped(Number),
     Invoke {

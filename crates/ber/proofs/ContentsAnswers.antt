@@ -19,20 +19,8 @@ use Rattle.ber.specs.Header.{identifierOctets}
 use Rattle.ber.specs.Element.{closes, foundBehind, elementsIn, elementOf, findingWith, findingIn}
 use Rattle.ber.specs.Steps.{elementBehind}
 use Rattle.ber.proofs.ElementBounds.{not-closing, closing-none, good-bounds, fault-bounds}
-use Rattle.ber.proofs.ElementLaws.{elements-step, elements-fault, elements-closed, elements-end}
+use Rattle.ber.proofs.ElementLaws.{behind-behind, elements-step, elements-fault, elements-closed, elements-end}
 use Rattle.ber.proofs.ElementAnswers.{element-by, element-headless}
-
-behind-behind : (a n : ℕ) (i : Inside) → foundBehind a (foundBehind n i) ≡ foundBehind (a + n) i
-unfolding foundBehind
-behind-behind a n (Ended k) = let e : a + (n + k) ≡ a + n + k = omega arith in ap Ended e
-behind-behind a n (Closed k) = let e : a + (n + k) ≡ a + n + k = omega arith in ap Closed e
-behind-behind a n (Broken p) = let e : a + (n + p) ≡ a + n + p = omega arith in ap Broken e
-
-pub behind-none : (i : Inside) → i ≡ foundBehind 0 i
-unfolding foundBehind
-behind-none (Ended k) = let e : k ≡ 0 + k = omega arith in ap Ended e
-behind-none (Closed k) = let e : k ≡ 0 + k = omega arith in ap Closed e
-behind-none (Broken p) = let e : p ≡ 0 + p = omega arith in ap Broken e
 
 -- ---- the loop: behind the octets up to `at`, with `left` more elements at most
 

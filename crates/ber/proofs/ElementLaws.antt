@@ -16,6 +16,20 @@ use Rattle.ber.specs.declared.element.Inside.the-variants.{Ended, Closed
 use Rattle.ber.specs.Element.{closes, foundBehind, behindFirst, elementsIn, fillsAll, elementOf, insideOf, contentsOf, size, fills, wellFormed}
 use Rattle.ber.proofs.ElementBounds.{good-size, size-good, closing-length, good-opens, Reaches, inside-reaches, good-bounds, element-bounds}
 
+-- ---- what was found behind octets
+
+pub behind-behind : (a n : ℕ) (i : Inside) → foundBehind a (foundBehind n i) ≡ foundBehind (a + n) i
+unfolding foundBehind
+behind-behind a n (Ended k) = let e : a + (n + k) ≡ a + n + k = omega arith in ap Ended e
+behind-behind a n (Closed k) = let e : a + (n + k) ≡ a + n + k = omega arith in ap Closed e
+behind-behind a n (Broken p) = let e : a + (n + p) ≡ a + n + p = omega arith in ap Broken e
+
+pub behind-none : (i : Inside) → i ≡ foundBehind 0 i
+unfolding foundBehind
+behind-none (Ended k) = let e : k ≡ 0 + k = omega arith in ap Ended e
+behind-none (Closed k) = let e : k ≡ 0 + k = omega arith in ap Closed e
+behind-none (Broken p) = let e : p ≡ 0 + p = omega arith in ap Broken e
+
 -- ---- the bound on the count of elements does not matter beyond the octets
 
 first-same : (g h : List ℕ → Inside) (s : List ℕ) (r : Checked) → ((k : ℕ) → r ≡ Good k → g (drop k s) ≡ h (drop k s)) → behindFirst g s r ≡ behindFirst h s r

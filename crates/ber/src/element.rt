@@ -10,7 +10,7 @@ ghost use mathlib.Core.Bool.{cond};
 ghost use Rattle.ber.specs.Rule.{contentRule};
 ghost use Prim.Native.Nat.{_+_, _<_, _^_};
 ghost use lib.ListN.{length};
-ghost use Rattle.ber.specs.Element.{closes, elementsIn, filledBehind, closedBehind, elementOf, wellFormed, findingIn, frameOf};
+ghost use Rattle.ber.specs.Element.{closes, elementsIn, filledBehind, closedBehind, elementOf, wellFormed, findingIn, isMore, isFault, placeIn, frameOf};
 ghost use Rattle.ber.specs.Steps.{Countable, elementBehind};
 
 // What a check finds at the front of octets: an element of so many octets, or the place of the first fault.
@@ -31,6 +31,39 @@ pub enum Finding {
     One,
     More { at: usize },
     Fault { at: usize },
+}
+
+impl Finding {
+    pub fn is_more(self) -> bool
+        ensures { λ r. ⌜ r ≡ isMore self ⌝ }
+    {
+        match self {
+            Finding::One => false,
+            Finding::More { at: _ } => true,
+            Finding::Fault { at: _ } => false,
+        }
+    }
+
+    pub fn is_fault(self) -> bool
+        ensures { λ r. ⌜ r ≡ isFault self ⌝ }
+    {
+        match self {
+            Finding::One => false,
+            Finding::More { at: _ } => false,
+            Finding::Fault { at: _ } => true,
+        }
+    }
+
+    // The place of the first fault; 0 where there is none.
+    pub fn place(self) -> usize
+        ensures { λ r. ⌜ r ≡ placeIn self ⌝ }
+    {
+        match self {
+            Finding::One => 0,
+            Finding::More { at } => at,
+            Finding::Fault { at } => at,
+        }
+    }
 }
 
 // Octets that start and end as one element: the first octet, and where the contents start and stop.

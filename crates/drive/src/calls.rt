@@ -69,7 +69,16 @@ fn receive(asked: Asked, state: State, table: &[u8], x: &[u8], out: &mut [u8]) -
     let next = r.state;
     let at = reception_line(&mut line, x, reception);
     let value = value_of(reception);
-    emit(&mut line, at, next, out, r.written, asked.places, value);
+    emit(
+        &mut line,
+        at,
+        next,
+        out,
+        r.written,
+        r.place,
+        asked.places,
+        value,
+    );
     next
 }
 
@@ -129,6 +138,7 @@ fn request_or_forget(
         next,
         out,
         r.written,
+        r.place,
         asked.places,
         Value::Absent,
     );

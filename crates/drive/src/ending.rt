@@ -1,4 +1,4 @@
-// What stands behind the answer on a line: the state then, the lent output and, where asked, the value's place.
+// What stands behind the answer on a line: the state then, the lent output, the place of a fault and, where asked, the value's place.
 ghost use mathlib.Core.Path.{_≡_};
 ghost use lib.ListN.{length};
 use crate::output::is_spoiled;
@@ -74,6 +74,12 @@ fn span_line(line: &mut [u8], at: usize, span: Span) -> usize {
     decimal(line, c, span.end as u64)
 }
 
+// The place of the first fault in the octets given, 0 where the answer names none.
+fn fault_line(line: &mut [u8], at: usize, place: usize) -> usize {
+    let a = words(line, at, b" place ");
+    decimal(line, a, place as u64)
+}
+
 // The value's place in the received octets, where the run shows places.
 fn place_line(line: &mut [u8], at: usize, is_placed: bool, value: Value) -> usize {
     if !is_placed {
@@ -100,12 +106,14 @@ pub(crate) fn emit(
     state: State,
     lent: &[u8],
     written: usize,
+    place: usize,
     is_placed: bool,
     value: Value,
 ) {
     let a = state_line(line, at, state);
     let b = output_line(line, a, lent, written);
-    let c = place_line(line, b, is_placed, value);
-    let n = put(line, c, 10);
+    let c = fault_line(line, b, place);
+    let d = place_line(line, c, is_placed, value);
+    let n = put(line, d, 10);
     print(STDOUT_FILENO, line, n);
 }

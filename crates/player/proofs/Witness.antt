@@ -6,7 +6,7 @@ use lib.ListN.{length}
 use Rattle.ber.specs.Header.{numberFrom, digits, continued, oneOf, highTag, highTagOctets, identifierOctets, constructed, lengthOf, lengthCount, lengthOctets, headerWith, headerOf}
 use Rattle.ber.specs.Rule.{shortest, parts, contentRule}
 use Rattle.base.specs.Lists.{nonEmpty}
-use Rattle.ber.specs.Element.{closes, foundBehind, behindFirst, elementsIn, filledBehind, closedBehind, made, elementWith, elementOf, sizeIn, size, fills, wellFormed, findingWith, findingIn, placeIn, frameWith, frameOf, elementOctets}
+use Rattle.ber.specs.Element.{closes, foundBehind, behindFirst, elementsIn, filledBehind, closedBehind, made, elementWith, elementOf, sizeIn, size, fills, wellFormed, findingWith, findingIn, frameWith, frameOf, elementOctets}
 use Rattle.ber.specs.Integer.{signOf, pattern, integerOf, fitsOctets, octetCount, integerOctets}
 use Rattle.base.specs.Count.{every, any}
 use Rattle.codes.specs.Count.{seek}
@@ -108,5 +108,5 @@ verdicts = agree 0 ∷ agree 4 ∷ agree 2 ∷ differsAt 3 ∷ differsAt 3 ∷ d
 
 -- the days, and a wrong table with a malformed capture: 1 before 20
 pub replayed : (map (replay table) days ≡ verdicts) × (replay [] [] ≡ refusedWith 1)
-unfolding pairBelow pairRight resultRight numberFrom digits continued oneOf highTag highTagOctets identifierOctets lengthOf lengthCount lengthOctets headerWith headerOf shortest parts contentRule constructed closes foundBehind behindFirst elementsIn filledBehind closedBehind made elementWith elementOf sizeIn size fills wellFormed findingWith findingIn placeIn frameWith frameOf elementOctets signOf pattern integerOf fitsOctets octetCount integerOctets every any seek count start entryStart octetAt codeAt hasCode operationAt errorAt firstAt secondAt withinLimit behind laidOut ruleRight operationRight errorRight allowed above rises fieldsRight entryRight partRight valid find operationIn operationOf errorIn errorOf joins joined parentAt hasChild valueRight fieldsWith fieldsBy fieldsIn numberOf numberUnder isCode codeOf codedWith codedOf linkedWith linkedOf invokeWith invokeBehind resultWith resultBehind errorBehind mostProblem isProblem idAllowed rejectWith rejectBehind rejectOf behindId withId byKind parseAt parse nonEmpty linkedField rejectedField valueField bodyField encodeInvoke encodeResult encodeError encodeReject usable valueFinding valueWell withinLimits fault invokeChecks resultChecks errorChecks receiveApdu laterChecks done perform captureCount dataOffset kindRight zeroRight sizeFits sizeRight captureEntryRight headed dataEnd placed endToEnd captureValid entryAt requestOf forgetOf sameOctets agreed asked playedAs playOne play replay
+unfolding pairBelow pairRight resultRight numberFrom digits continued oneOf highTag highTagOctets identifierOctets lengthOf lengthCount lengthOctets headerWith headerOf shortest parts contentRule constructed closes foundBehind behindFirst elementsIn filledBehind closedBehind made elementWith elementOf sizeIn size fills wellFormed findingWith findingIn frameWith frameOf elementOctets signOf pattern integerOf fitsOctets octetCount integerOctets every any seek count start entryStart octetAt codeAt hasCode operationAt errorAt firstAt secondAt withinLimit behind laidOut ruleRight operationRight errorRight allowed above rises fieldsRight entryRight partRight valid find operationIn operationOf errorIn errorOf joins joined parentAt hasChild valueRight fieldsWith fieldsBy fieldsIn numberOf numberUnder isCode codeOf codedWith codedOf linkedWith linkedOf invokeWith invokeBehind resultWith resultBehind errorBehind mostProblem isProblem idAllowed rejectWith rejectBehind rejectOf behindId withId byKind parseAt parse nonEmpty linkedField rejectedField valueField bodyField encodeInvoke encodeResult encodeError encodeReject usable valueFinding valueWell withinLimits fault invokeChecks resultChecks errorChecks receiveApdu laterChecks done perform captureCount dataOffset kindRight zeroRight sizeFits sizeRight captureEntryRight headed dataEnd placed endToEnd captureValid entryAt requestOf forgetOf sameOctets agreed asked playedAs playOne play replay
 replayed = (refl, refl)

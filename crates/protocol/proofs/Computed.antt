@@ -7,7 +7,7 @@ use Rattle.records.specs.State.{fresh}
 use Rattle.ber.specs.Header.{numberFrom, digits, continued, oneOf, highTag, highTagOctets, identifierOctets, constructed, lengthOf, lengthCount, lengthOctets, headerWith, headerOf}
 use Rattle.ber.specs.Rule.{shortest, parts, contentRule}
 use Rattle.base.specs.Lists.{nonEmpty}
-use Rattle.ber.specs.Element.{closes, foundBehind, behindFirst, elementsIn, filledBehind, closedBehind, made, elementWith, elementOf, sizeIn, size, fills, wellFormed, findingWith, findingIn, placeIn, frameWith, frameOf, elementOctets}
+use Rattle.ber.specs.Element.{closes, foundBehind, behindFirst, elementsIn, filledBehind, closedBehind, made, elementWith, elementOf, sizeIn, size, fills, wellFormed, findingWith, findingIn, frameWith, frameOf, elementOctets}
 use Rattle.ber.specs.Integer.{signOf, pattern, integerOf, fitsOctets, octetCount, integerOctets}
 use Rattle.base.specs.Count.{every, any}
 use Rattle.codes.specs.Count.{seek}
@@ -39,7 +39,7 @@ pub record Computed : Type 0 where
   pub once : UsesIdsOnce (final tableO tableN (begin fresh) good)
 
 pub computed : Computed
-unfolding answerTo pairBelow pairRight resultRight numberFrom digits continued oneOf highTag highTagOctets identifierOctets lengthOf lengthCount lengthOctets headerWith headerOf shortest parts contentRule constructed closes foundBehind behindFirst elementsIn filledBehind closedBehind made elementWith elementOf sizeIn size fills wellFormed findingWith findingIn placeIn frameWith frameOf elementOctets signOf pattern integerOf fitsOctets octetCount integerOctets every any seek count start entryStart octetAt codeAt hasCode operationAt errorAt firstAt secondAt withinLimit behind laidOut ruleRight operationRight errorRight allowed above rises fieldsRight entryRight partRight valid find operationIn operationOf errorIn errorOf joins joined parentAt hasChild valueRight fieldsWith fieldsBy fieldsIn numberOf numberUnder isCode codeOf codedWith codedOf linkedWith linkedOf invokeWith invokeBehind resultWith resultBehind errorBehind mostProblem isProblem idAllowed rejectWith rejectBehind rejectOf behindId withId byKind parseAt parse nonEmpty linkedField rejectedField valueField bodyField encodeInvoke encodeResult encodeError encodeReject usable valueFinding valueWell withinLimits fault invokeChecks resultChecks errorChecks receiveApdu laterChecks done perform
+unfolding answerTo pairBelow pairRight resultRight numberFrom digits continued oneOf highTag highTagOctets identifierOctets lengthOf lengthCount lengthOctets headerWith headerOf shortest parts contentRule constructed closes foundBehind behindFirst elementsIn filledBehind closedBehind made elementWith elementOf sizeIn size fills wellFormed findingWith findingIn frameWith frameOf elementOctets signOf pattern integerOf fitsOctets octetCount integerOctets every any seek count start entryStart octetAt codeAt hasCode operationAt errorAt firstAt secondAt withinLimit behind laidOut ruleRight operationRight errorRight allowed above rises fieldsRight entryRight partRight valid find operationIn operationOf errorIn errorOf joins joined parentAt hasChild valueRight fieldsWith fieldsBy fieldsIn numberOf numberUnder isCode codeOf codedWith codedOf linkedWith linkedOf invokeWith invokeBehind resultWith resultBehind errorBehind mostProblem isProblem idAllowed rejectWith rejectBehind rejectOf behindId withId byKind parseAt parse nonEmpty linkedField rejectedField valueField bodyField encodeInvoke encodeResult encodeError encodeReject usable valueFinding valueWell withinLimits fault invokeChecks resultChecks errorChecks receiveApdu laterChecks done perform
 computed = record {
   marked = refl;
   run = refl;

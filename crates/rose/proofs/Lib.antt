@@ -5,4 +5,5 @@ mod PartAnswers
 mod Arrivals
 mod Written
 mod Calls
+mod Faults
 mod Receiving

@@ -1,7 +1,7 @@
 -- What the tests of a check say, as its definition asks it.
 use Prim.Native.Nat.{ℕ, _+_, _-_}
 use mathlib.Core.Path.{_≡_, refl, sym, subst, ap, _∙_}
-use mathlib.Core.Bool.{Bool, true, false, not, _&&_, true≢false}
+use mathlib.Core.Bool.{Bool, true, false, not, _&&_, true≢false, false≢true}
 use mathlib.Core.List.{List, [], _∷_}
 use mathlib.Core.Option.{Option, some, none}
 use native.Mathlib.Omega.{arith}
@@ -17,15 +17,19 @@ use Rattle.codes.specs.declared.Place.the-variants.{At}
 use Rattle.optable.specs.Validity.{valid}
 use Rattle.optable.specs.Lookup.{operationOf, listed, errorOf, known, PlaceOf}
 use Rattle.base.specs.Lists.{nonEmpty}
-use Rattle.ber.specs.Element.{wellFormed}
+use Rattle.ber.specs.declared.element.Finding.{Finding}
+use Rattle.ber.specs.declared.element.Finding.the-variants.{One}
+use Rattle.ber.specs.Element.{wellFormed, findingIn, placeIn, place}
 use Rattle.ber.proofs.Locality.{well-formed-more}
+use Rattle.ber.proofs.FaultLaws.{finding-one, place-within}
 use Rattle.apdu.specs.declared.Number.{Number}
 use Rattle.apdu.specs.declared.Number.the-variants.{Of, Absent}
 use Rattle.apdu.specs.declared.CodeField.{CodeField}
 use Rattle.apdu.specs.declared.CodeField.the-variants.{Local, Other}
-use Rattle.protocol.specs.Check.{codeFound, codeIn, isLinked, linkedTo, valueWell}
+use Rattle.protocol.specs.Check.{codeFound, codeIn, isLinked, linkedTo, valueFinding, valueWell}
 use Rattle.protocol.specs.Receive.{fieldCode, isOperation, isError}
-use Rattle.rose.specs.Steps.{isFound, isLocal, foundBy, StandsAt}
+use Rattle.rose.specs.declared.request.Weighed.{Weighed}
+use Rattle.rose.specs.Steps.{isFound, isLocal, foundBy, StandsAt, Weighs}
 use Rattle.rose.proofs.UsableAnswers.{found-member}
 
 -- ---- a value, empty for none
@@ -41,7 +45,7 @@ well-some d [] h = absurd (h refl)
 well-some d (b ∷ v) h = refl
 
 -- well-formed some levels down is well-formed at the full levels
-pub well-at-all : (down : ℕ) (v : Option (List ℕ)) → valueWell (levels - down) v ≡ true → valueWell levels v ≡ true
+well-at-all : (down : ℕ) (v : Option (List ℕ)) → valueWell (levels - down) v ≡ true → valueWell levels v ≡ true
 unfolding valueWell
 well-at-all down none h = refl
 well-at-all down (some v) h = go (leb down levels) refl
@@ -55,6 +59,38 @@ well-at-all down (some v) h = go (leb down levels) refl
         let p = leb-false down levels e in
         let q : levels - down + levels ≡ levels = omega arith in
         rw q at (well-formed-more (levels - down) levels v h)
+
+well-finding : (v : Option (List ℕ)) → valueWell levels v ≡ true → One ≡ valueFinding levels v
+unfolding valueWell valueFinding
+well-finding none h = refl
+well-finding (some v) h = sym (finding-one levels v h)
+
+module _ (down most : ℕ) (o : most ≡ levels - down) (v : List ℕ) (b : Bool) (q : b ≡ valueWell most (nonEmpty v)) where
+  fits-down : {t : Bool} → b ≡ t → t ≡ valueWell (levels - down) (nonEmpty v)
+  fits-down e = sym e ∙ q ∙ ap (λ (d : ℕ). valueWell d (nonEmpty v)) o
+
+  pub weighs-well : b ≡ true → Weighs down v (record { fits = true; finding = One })
+  weighs-well e = record { fits = fits-down e; finding = well-finding (nonEmpty v) (well-at-all down (nonEmpty v) (sym (fits-down e))) }
+
+  pub weighs-not : b ≡ false → (f : Finding) → f ≡ findingIn levels v → Weighs down v (record { fits = false; finding = f })
+  unfolding valueWell valueFinding nonEmpty
+  weighs-not e f w = record { fits = fits-down e; finding = w ∙ go v (fits-down e) }
+    where
+      go : (v : List ℕ) → false ≡ valueWell (levels - down) (nonEmpty v) → findingIn levels v ≡ valueFinding levels (nonEmpty v)
+      go [] h = absurd (false≢true h)
+      go (b ∷ v) h = refl
+
+pub no-octets : 0 ≡ place levels []
+no-octets = omega (arith, place-within levels [])
+
+-- the place that a value's finding has is that of the octets given
+pub weighs-place : (down : ℕ) (v : List ℕ) (w : Weighed) → Weighs down v w → placeIn (w .finding) ≡ place levels v
+unfolding valueFinding nonEmpty
+weighs-place down v w h = ap placeIn (h .finding) ∙ go v
+  where
+    go : (v : List ℕ) → placeIn (valueFinding levels (nonEmpty v)) ≡ place levels v
+    go [] = no-octets
+    go (b ∷ v) = refl
 
 -- ---- a code of another form is none of the table's
 

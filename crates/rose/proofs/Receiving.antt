@@ -20,8 +20,9 @@ use Rattle.protocol.proofs.Checks.{passed}
 use Rattle.rose.specs.declared.verdict.Verdict.{Verdict}
 use Rattle.rose.specs.declared.verdict.Verdict.the-variants.{Passes}
 use Rattle.rose.specs.declared.arrival.Arrival.{Arrival}
-use Rattle.rose.specs.Steps.{Judged, after, Arrives, receptionWrites, RefusalWritten}
+use Rattle.rose.specs.Steps.{Judged, after, Arrives, faultIn, receptionWrites, RefusalWritten}
 use Rattle.rose.proofs.Calls.{all-pass, performs}
+use Rattle.rose.proofs.Faults.{received-place}
 
 -- a Reject takes at most 11 octets
 written-most : (r : Refusal) → length (rejectWritten r) ≤ leastRoom
@@ -57,17 +58,18 @@ module _ (T : List ℕ) (s : State) (x before : List ℕ) (v : Verdict) (g : Jud
   short = ltb-false octets (length x) (passed (checks T s (receive x (length before))) (all-pass T s (receive x (length before)) v g o) 3)
 
   -- t is the state as z changes it
-  module _ (z : Arrival) (a : Arrives T s x (parse x) z) (t : State) (e : t ≡ after s (z .change)) (out : List ℕ) (n : ℕ) (w : RefusalWritten (z .reception) before out n) where
+  module _ (z : Arrival) (a : Arrives T s x (parse x) z) (t : State) (e : t ≡ after s (z .change)) (out : List ℕ) (n : ℕ) (w : RefusalWritten (z .reception) before out n) (p : ℕ) (f : p ≡ faultIn (parse x)) where
     is-written : writtenBy (receiveApdu T s x (parse x)) ≡ receptionWrites (z .reception)
     is-written = ap writtenBy (sym (a .answers)) ∙ writes x (z .reception) (after s (z .change))
 
     fits : length (receptionWrites (z .reception)) ≤ length before
     fits = omega (arith, room, writes-most (z .reception))
 
-    pub received : ReceivePromise (perform T s (receive x (length before))) s x before out (record { state = t; reception = z .reception; written = n })
+    pub received : ReceivePromise (perform T s (receive x (length before))) s x before out (record { state = t; reception = z .reception; written = n; place = p })
     received =
         record {
           answers = rw receives (reads x (z .reception) _ (after s (z .change)) _ (sym (a .state)) is-written ∙ a .answers);
           state = rw receives (e ∙ a .state);
           written = record { octets = rw (receives, is-written) (w .octets fits); counted = rw (receives, is-written) (w .counted fits) };
+          place = rw receives (f ∙ received-place T s x);
         }

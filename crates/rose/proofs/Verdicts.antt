@@ -2,7 +2,7 @@
 use Prim.Native.Nat.{ℕ, zero, suc, _≤_, _<_}
 use mathlib.Core.Path.{_≡_, refl, sym, subst, ap, _∙_}
 use mathlib.Core.Logic.{_⊎_, inl, inr}
-use mathlib.Core.Bool.{Bool, true, false, cond, _&&_}
+use mathlib.Core.Bool.{Bool, true, false, cond, not, _&&_, _||_}
 use mathlib.Core.List.{List, [], _∷_, _++_}
 use mathlib.Core.Option.{Option, some, none, orElse}
 use native.Mathlib.Omega.{arith}
@@ -12,7 +12,7 @@ use borrow.Author.Tests.{leb-true, eqb-true, not-false}
 use Rattle.base.proofs.Tests.{and-left, and-right, or-cases}
 use Rattle.records.specs.declared.State.{State}
 use Rattle.optable.specs.Validity.{valid}
-use Rattle.protocol.specs.Call.{own, peer, Call, receive, invoke, result, error, reject, forget, Refusal, plain, rejecting, Answer, refused}
+use Rattle.protocol.specs.Call.{own, peer, Call, receive, invoke, result, error, reject, forget, Refusal, plain, rejecting, Answer, refused, namesPlace}
 use Rattle.protocol.specs.Check.{Check, answer, usable, shared}
 use Rattle.protocol.specs.Perform.{laterChecks, checks}
 use Rattle.protocol.proofs.Checks.{Pass, pass, passed}
@@ -132,18 +132,27 @@ all F cs r p l = l .says (λ _. p)
 pub judged : {Q : Type 0} (T : List ℕ) (s : State) (c : Call) (v r : Verdict) → Opened T s v → (v ≡ Passes → Q) → Rest ((valid T ≡ true) × Q) plain v (laterChecks T s c) r → Judged T s c r
 judged T s c v r o q l = l .says (λ e. (opened-valid T s v o e, q e)) ∙ ap (λ (f : Option Refusal). orElse f (first (laterChecks T s c))) o ∙ sym (first-append (shared T s) (laterChecks T s c))
 
--- ---- each check of a request gives a refusal's number
+-- ---- what holds of each check's refusal
 
+abbrev pub allOf : (Refusal → Bool) → List Check → Bool
+allOf t [] = true
+allOf t (c ∷ cs) = t (c .why) && allOf t cs
+
+pub first-of : (t : Refusal → Bool) (cs : List Check) (r : Refusal) → allOf t cs ≡ true → first cs ≡ some r → t r ≡ true
+first-of t [] r h e = some-none (sym e)
+first-of t (c ∷ cs) r h e = go (c .fails) e (first-of t cs r (and-right (t (c .why)) _ h))
+  where
+    go : (b : Bool) → cond b (some (c .why)) (first cs) ≡ some r → (first cs ≡ some r → t r ≡ true) → t r ≡ true
+    go true q ih = let k : c .why ≡ r = cc in subst (λ (x : Refusal). t x ≡ true) k (and-left _ _ h)
+    go false q ih = ih q
+
+-- it is one of a number
 abbrev pub isPlain : Refusal → Bool
 isPlain (plain n) = isNumber n
 isPlain (rejecting i kind p) = false
 
-abbrev pub allPlain : List Check → Bool
-allPlain [] = true
-allPlain (c ∷ cs) = isPlain (c .why) && allPlain cs
-
 -- all of a call's checks do
-pub checks-plain : (T : List ℕ) (s : State) (c : Call) → allPlain (checks T s c) ≡ true
+pub checks-plain : (T : List ℕ) (s : State) (c : Call) → allOf isPlain (checks T s c) ≡ true
 unfolding laterChecks
 checks-plain T s (receive x room) = refl
 checks-plain T s (invoke i c l v room) = refl
@@ -153,13 +162,13 @@ checks-plain T s (reject i p room) = refl
 checks-plain T s (forget own i) = refl
 checks-plain T s (forget peer i) = refl
 
-pub plain-number : (cs : List Check) (n : ℕ) → allPlain cs ≡ true → first cs ≡ some (plain n) → isNumber n ≡ true
-plain-number [] n h e = some-none (sym e)
-plain-number (c ∷ cs) n h e = go (c .fails) e (plain-number cs n (and-right (isPlain (c .why)) _ h))
-  where
-    go : (b : Bool) → cond b (some (c .why)) (first cs) ≡ some (plain n) → (first cs ≡ some (plain n) → isNumber n ≡ true) → isNumber n ≡ true
-    go true q ih = let k : c .why ≡ plain n = cc in subst (λ (x : Refusal). isPlain x ≡ true) k (and-left _ _ h)
-    go false q ih = ih q
+-- none that comes before an APDU is looked at names a place in it
+abbrev pub unnamed : Refusal → Bool
+unnamed r = not (namesPlace r)
+
+pub receive-unnamed : (T : List ℕ) (s : State) (x : List ℕ) (room : ℕ) → allOf unnamed (checks T s (receive x room)) ≡ true
+unfolding laterChecks
+receive-unnamed T s x room = refl
 
 lt-not-le : (k n : ℕ) → k < n → n ≤ k → ⊥
 lt-not-le k n p q = omega arith
@@ -173,9 +182,13 @@ past : (k n : ℕ) → Past k n → 1 ≤ n → k < n
 past zero n w h = omega arith
 past (suc k) n (w, d) h = let p = past k n w h in let q : n ≡ suc k → ⊥ = d in omega arith
 
-pub number-rest : (n : ℕ) → isNumber n ≡ true → Past 16 n → n ≡ 19
-number-rest n h w = go (or-cases (leb 1 n && leb n 16) (eqb n 19) h)
+pub number-rest : (n : ℕ) → isNumber n ≡ true → Past 16 n × (OneOf (21 ∷ []) n → ⊥) → n ≡ 19
+number-rest n h (w, d) = go (or-cases (leb 1 n && leb n 16) (eqb n 19 || eqb n 21) h)
   where
-    go : ((leb 1 n && leb n 16) ≡ true) ⊎ (eqb n 19 ≡ true) → n ≡ 19
+    go : ((leb 1 n && leb n 16) ≡ true) ⊎ ((eqb n 19 || eqb n 21) ≡ true) → n ≡ 19
     go (inl e) = absurd (lt-not-le 16 n (past 16 n w (leb-true 1 n (and-left (leb 1 n) (leb n 16) e))) (leb-true n 16 (and-right (leb 1 n) (leb n 16) e)))
-    go (inr e) = eqb-true n 19 e
+    go (inr e) = late (or-cases (eqb n 19) (eqb n 21) e)
+      where
+        late : (eqb n 19 ≡ true) ⊎ (eqb n 21 ≡ true) → n ≡ 19
+        late (inl e) = eqb-true n 19 e
+        late (inr e) = absurd (d (eqb-true n 21 e))

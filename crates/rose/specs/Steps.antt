@@ -1,6 +1,6 @@
 -- What only serves the proof of a call's parts: the first check that fails, a linked id's parent, what becomes of a received APDU. The calls
 -- promise what crate protocol defines.
-use Prim.Native.Nat.{ℕ, _≤_}
+use Prim.Native.Nat.{ℕ, _-_, _≤_}
 use mathlib.Core.Path.{_≡_}
 use mathlib.Core.Bool.{Bool, true, false, cond, _&&_, _||_}
 use mathlib.Core.List.{List, [], _∷_, _++_}
@@ -11,7 +11,9 @@ use Rattle.records.specs.declared.Found.{Found}
 use Rattle.records.specs.declared.Found.the-variants.{Operation, Nothing}
 use Rattle.records.specs.declared.Code.{Code}
 use Rattle.records.specs.declared.Record.{Record}
+use Rattle.records.specs.Limits.{levels}
 use Rattle.records.specs.Records.{sameCode, lookup}
+use Rattle.base.specs.Lists.{nonEmpty}
 use Rattle.optable.specs.declared.Part.the-variants.{Operations}
 use Rattle.codes.specs.declared.Place.the-variants.{At}
 use Rattle.optable.specs.Validity.{valid}
@@ -31,8 +33,8 @@ use Rattle.protocol.specs.declared.Reception.the-variants.{Indicated, Refused a
 use Rattle.protocol.specs.declared.Outcome.the-variants.{Accepted}
 use Rattle.protocol.specs.declared.Requested.{Requested}
 use Rattle.protocol.specs.declared.Received.{Received}
-use Rattle.protocol.specs.Call.{Call, Answer, Refusal, plain, refused, rejectWritten, stateAfter}
-use Rattle.protocol.specs.Check.{Check, codeFound, ownRecords, peerRecords, covered, isBusy, shared}
+use Rattle.protocol.specs.Call.{Call, Answer, Refusal, plain, refused, rejectWritten, namesPlace, stateAfter}
+use Rattle.protocol.specs.Check.{Check, codeFound, ownRecords, peerRecords, covered, isBusy, shared, valueFinding, valueWell}
 use Rattle.protocol.specs.Perform.{checks}
 use Rattle.protocol.specs.Receive.{receiveApdu}
 use Rattle.protocol.specs.Reading.{readRefusal, readReception, readOutcome}
@@ -43,6 +45,7 @@ use Rattle.rose.specs.declared.usable.Opening.{Opening}
 use Rattle.rose.specs.declared.usable.Sought.{Sought}
 use Rattle.rose.specs.declared.usable.Sought.the-variants.{Own as OwnOne, Peer as PeerOne, Nothing as NoOne}
 use Rattle.rose.specs.declared.arrival.Arrival.{Arrival}
+use Rattle.rose.specs.declared.request.Weighed.{Weighed}
 use Rattle.rose.specs.declared.change.Change.{Change}
 use Rattle.rose.specs.declared.change.Change.the-variants.{Unchanged, Adds, Retires}
 
@@ -145,29 +148,49 @@ leadsTo (result i b) l = lookup i l
 leadsTo (error i c v) l = lookup i l
 leadsTo (reject i kind p) l = Nothing
 
+-- where octets are at fault that are no APDU
+abbrev pub faultIn : Apdu → ℕ
+faultIn (badlyStructured p) = p
+faultIn unrecognized = 0
+faultIn (mistyped i) = 0
+faultIn (invoke i n c v) = 0
+faultIn (result i b) = 0
+faultIn (error i c v) = 0
+faultIn (reject i kind p) = 0
+
 -- the record of an invocation
 abbrev pub invocationIn : State → Invocation → Found
 invocationIn s (Own i) = lookup (i .0) (ownRecords s)
 invocationIn s (Peer i) = lookup (i .0) (peerRecords s)
 
+-- ---- values
+
+-- what is known of a value, empty for none, that stands so many levels down
+pub record Weighs (down : ℕ) (v : List ℕ) (w : Weighed) : Type 0 where
+  pub fits : w .fits ≡ valueWell (levels - down) (nonEmpty v)
+  pub finding : w .finding ≡ valueFinding levels (nonEmpty v)
+
 -- ---- answers
 
 -- the numbers of the refusals that checks give
 abbrev pub isNumber : ℕ → Bool
-isNumber n = (leb 1 n && leb n 16) || eqb n 19
+isNumber n = (leb 1 n && leb n 16) || (eqb n 19 || eqb n 21)
 
-pub record RefusedRequest (s : State) (n : ℕ) (r : Requested) : Type 0 where
+-- the value being at fault at p, if it is
+pub record RefusedRequest (s : State) (n p : ℕ) (r : Requested) : Type 0 where
   pub outcome : isNumber n ≡ true → (t : State) (w : List ℕ) → readOutcome (r .outcome) t w ≡ refused (plain n)
   pub state : r .state ≡ s
   pub written : r .written ≡ 0
+  pub place : r .place ≡ cond (namesPlace (plain n)) p 0
 
 pub record RefusedReceive (s : State) (n : ℕ) (r : Received) : Type 0 where
   pub reception : isNumber n ≡ true → (x : List ℕ) (t : State) (w : List ℕ) → readReception x (r .reception) t w ≡ refused (plain n)
   pub state : r .state ≡ s
   pub written : r .written ≡ 0
+  pub place : r .place ≡ 0
 
 abbrev pub acceptedRequest : State → ℕ → Requested
-acceptedRequest s n = record { state = s; outcome = Accepted; written = n }
+acceptedRequest s n = record { state = s; outcome = Accepted; written = n; place = 0 }
 
 abbrev pub withoutInvocation : State → Invocation → State
 withoutInvocation s (Own i) = retireOwn s i

@@ -1,4 +1,5 @@
 // What a call answers, and the Reject that a refused APDU is answered with.
+use crate::verdict::names_place;
 use crate::verdict::refusal;
 use apdu::encode::write_reject;
 use protocol::Outcome;
@@ -8,15 +9,29 @@ use protocol::Refusal;
 use protocol::Requested;
 use records::State;
 ghost use mathlib.Core.Path.{_≡_};
+ghost use mathlib.Core.Bool.{cond};
+ghost use Rattle.protocol.specs.Call.{plain, namesPlace};
 ghost use Rattle.rose.specs.Steps.{RefusedRequest, RefusedReceive, acceptedRequest, RefusalWritten};
 
-pub(crate) fn refused(state: State, why: u8) -> Requested
-    ensures { λ r. ⌜ RefusedRequest state why r ⌝ }
+// The place, if a refusal of this number names one.
+fn named(why: u8, place: usize) -> usize
+    ensures { λ r. ⌜ r ≡ cond (namesPlace (plain why)) place 0 ⌝ }
+{
+    if names_place(why) {
+        return place;
+    }
+    0
+}
+
+// Refused, the value being at fault at a place, if it is.
+pub(crate) fn refused(state: State, why: u8, place: usize) -> Requested
+    ensures { λ r. ⌜ RefusedRequest state why place r ⌝ }
 {
     Requested {
         state,
         outcome: Outcome::Refused(refusal(why)),
         written: 0,
+        place: named(why, place),
     }
 }
 
@@ -27,6 +42,7 @@ pub(crate) fn accepted(state: State, written: usize) -> Requested
         state,
         outcome: Outcome::Accepted,
         written,
+        place: 0,
     }
 }
 
@@ -37,6 +53,7 @@ pub(crate) fn unheard(state: State, why: u8) -> Received
         state,
         reception: Reception::Refused(refusal(why)),
         written: 0,
+        place: 0,
     }
 }
 

@@ -213,7 +213,7 @@ pub(crate) fn arrive(
     ensures { λ r. ⌜ ((own : Records) (codes : List ℕ) → opened .found ≡ leadsTo (parse (now (x .entry))) (view own) → Arrives (now (table .entry)) (both own (lent count (now (ids .entry)) codes)) (now (x .entry)) (parse (now (x .entry))) r) ⌝ }
 {
     match parsed {
-        Parsed::BadlyStructured => arrive_wrong(x, 2, Number::Absent),
+        Parsed::BadlyStructured { at: _ } => arrive_wrong(x, 2, Number::Absent),
         Parsed::Unrecognized => arrive_wrong(x, 0, Number::Absent),
         Parsed::Mistyped(id) => arrive_wrong(x, 1, id),
         Parsed::Invoke {

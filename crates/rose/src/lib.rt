@@ -32,6 +32,7 @@ use optable::places::operation_place;
 use protocol::Invocation;
 use protocol::Received;
 use protocol::Requested;
+use reading::fault_in;
 use reading::leads_to;
 use reading::read;
 use records::Code;
@@ -43,6 +44,7 @@ use request::check_error;
 use request::check_invoke;
 use request::check_reject;
 use request::check_result;
+use request::weigh;
 use usable::Sought;
 use usable::code_found;
 use usable::opening_of;
@@ -89,6 +91,7 @@ pub fn receive(state: State, table: &[u8], apdu: &[u8], out: &mut [u8]) -> Recei
                 state: changed(state, change),
                 reception,
                 written,
+                place: fault_in(parsed),
             }
         }
     }
@@ -104,7 +107,7 @@ pub fn invoke(
     value: &[u8],
     out: &mut [u8],
 ) -> Requested
-    ensures { λ r. ⌜ RequestPromise (perform (now (table .entry)) state (invoke (id .0) code (readPeerLink linked) (now (value .entry)) (length (now (out .entry))))) state (now (out .entry)) (now (out .exit)) r ⌝ }
+    ensures { λ r. ⌜ RequestPromise (perform (now (table .entry)) state (invoke (id .0) code (readPeerLink linked) (now (value .entry)) (length (now (out .entry))))) state (now (value .entry)) (now (out .entry)) (now (out .exit)) r ⌝ }
 {
     let opened = opening_of(
         state.own.count,
@@ -118,6 +121,8 @@ pub fn invoke(
         peer_parent(linked),
     );
     let place = operation_place(table, code);
+    let weighed = weigh(value, State::LEVELS - 1);
+    let finding = weighed.finding;
     match check_invoke(
         opened,
         state.own.count,
@@ -128,9 +133,10 @@ pub fn invoke(
         code,
         linked,
         value,
+        weighed,
         out.len(),
     ) {
-        Verdict::Fails(why) => refused(state, why),
+        Verdict::Fails(why) => refused(state, why, finding.place()),
         Verdict::Passes => {
             let written = write_invoke(out, id, linked, code, value);
             let next = with_own(state, operation_in(table, place).class(), id, code);
@@ -141,7 +147,7 @@ pub fn invoke(
 
 // Answers an invocation of the peer's with a result; an empty value is none.
 pub fn result(state: State, table: &[u8], id: PeerId, value: &[u8], out: &mut [u8]) -> Requested
-    ensures { λ r. ⌜ RequestPromise (perform (now (table .entry)) state (result (id .0) (now (value .entry)) (length (now (out .entry))))) state (now (out .entry)) (now (out .exit)) r ⌝ }
+    ensures { λ r. ⌜ RequestPromise (perform (now (table .entry)) state (result (id .0) (now (value .entry)) (length (now (out .entry))))) state (now (value .entry)) (now (out .entry)) (now (out .exit)) r ⌝ }
 {
     let opened = opening_of(
         state.own.count,
@@ -154,8 +160,10 @@ pub fn result(state: State, table: &[u8], id: PeerId, value: &[u8], out: &mut [u
         0,
         Sought::Peer(id),
     );
-    match check_result(opened, table, id, value, out.len()) {
-        Verdict::Fails(why) => refused(state, why),
+    let weighed = weigh(value, State::LEVELS - 2);
+    let finding = weighed.finding;
+    match check_result(opened, table, id, value, weighed, out.len()) {
+        Verdict::Fails(why) => refused(state, why, finding.place()),
         Verdict::Passes => {
             let found = opened.found;
             let written = write_result(out, id, code_found(found), value);
@@ -173,7 +181,7 @@ pub fn error(
     value: &[u8],
     out: &mut [u8],
 ) -> Requested
-    ensures { λ r. ⌜ RequestPromise (perform (now (table .entry)) state (error (id .0) code (now (value .entry)) (length (now (out .entry))))) state (now (out .entry)) (now (out .exit)) r ⌝ }
+    ensures { λ r. ⌜ RequestPromise (perform (now (table .entry)) state (error (id .0) code (now (value .entry)) (length (now (out .entry))))) state (now (value .entry)) (now (out .entry)) (now (out .exit)) r ⌝ }
 {
     let opened = opening_of(
         state.own.count,
@@ -186,8 +194,10 @@ pub fn error(
         0,
         Sought::Peer(id),
     );
-    match check_error(opened, table, id, code, value, out.len()) {
-        Verdict::Fails(why) => refused(state, why),
+    let weighed = weigh(value, State::LEVELS - 1);
+    let finding = weighed.finding;
+    match check_error(opened, table, id, code, value, weighed, out.len()) {
+        Verdict::Fails(why) => refused(state, why, finding.place()),
         Verdict::Passes => {
             let written = write_error(out, id, code, value);
             accepted(state.retire_peer(id), written)
@@ -197,7 +207,7 @@ pub fn error(
 
 // Rejects an invocation of the peer's with invoke problem 2, 3 or 4.
 pub fn reject(state: State, table: &[u8], id: PeerId, problem: u8, out: &mut [u8]) -> Requested
-    ensures { λ r. ⌜ RequestPromise (perform (now (table .entry)) state (reject (id .0) problem (length (now (out .entry))))) state (now (out .entry)) (now (out .exit)) r ⌝ }
+    ensures { λ r. ⌜ RequestPromise (perform (now (table .entry)) state (reject (id .0) problem (length (now (out .entry))))) state [] (now (out .entry)) (now (out .exit)) r ⌝ }
 {
     let opened = opening_of(
         state.own.count,
@@ -211,7 +221,7 @@ pub fn reject(state: State, table: &[u8], id: PeerId, problem: u8, out: &mut [u8
         Sought::Peer(id),
     );
     match check_reject(opened, id, problem, out.len()) {
-        Verdict::Fails(why) => refused(state, why),
+        Verdict::Fails(why) => refused(state, why, 0),
         Verdict::Passes => {
             let written = write_reject(out, Number::Of(id.0), 0x81, problem);
             accepted(state.retire_peer(id), written)
@@ -221,7 +231,7 @@ pub fn reject(state: State, table: &[u8], id: PeerId, problem: u8, out: &mut [u8
 
 // Retires an own record, or a peer record whose class is neither 1 nor 2, with nothing sent.
 pub fn forget(state: State, table: &[u8], invocation: Invocation) -> Requested
-    ensures { λ r. ⌜ RequestPromise (perform (now (table .entry)) state (forgetting invocation)) state [] [] r ⌝ }
+    ensures { λ r. ⌜ RequestPromise (perform (now (table .entry)) state (forgetting invocation)) state [] [] [] r ⌝ }
 {
     let opened = opening_of(
         state.own.count,
@@ -235,7 +245,7 @@ pub fn forget(state: State, table: &[u8], invocation: Invocation) -> Requested
         record_sought(invocation),
     );
     match check_forget(opened, table, invocation) {
-        Verdict::Fails(why) => refused(state, why),
+        Verdict::Fails(why) => refused(state, why, 0),
         Verdict::Passes => accepted(forgotten(state, invocation), 0),
     }
 }

@@ -1,4 +1,4 @@
-// A received APDU as it is parsed, and the own record that it leads to.
+// A received APDU as it is parsed, the own record that it leads to, and where it is at fault.
 use crate::usable::Sought;
 use crate::usable::own_parent;
 use apdu::Parsed;
@@ -12,14 +12,14 @@ ghost use Rattle.records.specs.Limits.{octets};
 ghost use Rattle.apdu.specs.Parse.{parse};
 ghost use Rattle.apdu.specs.Reading.{readParsed};
 ghost use Rattle.protocol.specs.Check.{ownRecords};
-ghost use Rattle.rose.specs.Steps.{soughtIn, leadsTo};
+ghost use Rattle.rose.specs.Steps.{soughtIn, leadsTo, faultIn};
 
 // An APDU as it is parsed; one that is too long for any is not looked at.
 pub(crate) fn read(x: &[u8]) -> Parsed
     ensures { λ r. ⌜ (length (now (x .entry)) ≤ octets → readParsed (now (x .entry)) r ≡ parse (now (x .entry))) ⌝ }
 {
     if x.len() > State::OCTETS {
-        return Parsed::BadlyStructured;
+        return Parsed::BadlyStructured { at: 0 };
     }
     parse(x)
 }
@@ -42,5 +42,15 @@ pub(crate) fn leads_to(parsed: Parsed) -> Sought
             value: _,
         } => Sought::Own(id),
         _ => Sought::Nothing,
+    }
+}
+
+// Where octets are at fault that are no APDU; else 0.
+pub(crate) fn fault_in(parsed: Parsed) -> usize
+    ensures { λ r. ⌜ ((x : List ℕ) → r ≡ faultIn (readParsed x parsed)) ⌝ }
+{
+    match parsed {
+        Parsed::BadlyStructured { at } => at,
+        _ => 0,
     }
 }

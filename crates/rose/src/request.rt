@@ -14,6 +14,8 @@ use apdu::encode::error_size;
 use apdu::encode::invoke_size;
 use apdu::encode::reject_size;
 use apdu::encode::result_size;
+use ber::element::Finding;
+use ber::element::finding_in;
 use ber::element::well_formed;
 use codes::Place;
 use optable::places::error_in;
@@ -41,9 +43,9 @@ ghost use Rattle.optable.specs.declared.Part.the-variants.{Operations};
 ghost use Rattle.optable.specs.Lookup.{PlaceOf};
 ghost use Rattle.apdu.specs.Reading.{readPeerLink};
 ghost use Rattle.protocol.specs.Call.{invoke, result, error, reject};
-ghost use Rattle.protocol.specs.Check.{valueWell, peerRecords};
+ghost use Rattle.protocol.specs.Check.{valueWell, inApdu, inBody, peerRecords};
 ghost use Rattle.protocol.specs.Perform.{isUserProblem};
-ghost use Rattle.rose.specs.Steps.{both, foundBy, Opens, Judged};
+ghost use Rattle.rose.specs.Steps.{both, foundBy, Opens, Judged, Weighs};
 
 // A value, empty for none, is one well-formed element of at most so many levels.
 fn is_well(value: &[u8], levels: usize) -> bool
@@ -55,14 +57,26 @@ fn is_well(value: &[u8], levels: usize) -> bool
     well_formed(value, levels)
 }
 
-// Whether a value is well-formed at the full levels: it is where it is so many levels down, as `fits` says, and is then not walked again.
-fn is_well_formed(value: &[u8], fits: bool) -> bool
-    ensures { λ r. ⌜ ((down : ℕ) → fits ≡ valueWell (levels - down) (nonEmpty (now (value .entry))) → r ≡ valueWell levels (nonEmpty (now (value .entry)))) ⌝ }
+// What the checks of a request ask of its value: whether it is well-formed as many levels down as it stands, and what it is at the full levels.
+pub(crate) struct Weighed {
+    pub fits: bool,
+    pub finding: Finding,
+}
+
+// A value is walked again, at the full levels, only where it is not well-formed as many levels down as it stands.
+pub(crate) fn weigh(value: &[u8], most: usize) -> Weighed
+    ensures { λ r. ⌜ ((down : ℕ) → most ≡ levels - down → Weighs down (now (value .entry)) r) ⌝ }
 {
-    if fits {
-        return true;
+    if is_well(value, most) {
+        return Weighed {
+            fits: true,
+            finding: Finding::One,
+        };
     }
-    is_well(value, State::LEVELS)
+    Weighed {
+        fits: false,
+        finding: finding_in(value, State::LEVELS),
+    }
 }
 
 // Whether an APDU of so many octets is past the limits, `fits` saying whether its value is well-formed as many levels down as it stands.
@@ -83,12 +97,14 @@ pub(crate) fn check_invoke(
     code: Code,
     linked: PeerLink,
     value: &[u8],
+    weighed: Weighed,
     room: usize,
 ) -> Verdict
-    ensures { λ r. ⌜ ((codes : List ℕ) (peer : Records) → Opens (now (table .entry)) (both (lent count (now (ids .entry)) codes) peer) (length (view (lent count (now (ids .entry)) codes))) (foundBy (readPeerLink linked) (view peer)) opened → PlaceOf (now (table .entry)) Operations code place → Judged (now (table .entry)) (both (lent count (now (ids .entry)) codes) peer) (invoke (id .0) code (readPeerLink linked) (now (value .entry)) room) r) ⌝ }
+    ensures { λ r. ⌜ ((codes : List ℕ) (peer : Records) → Opens (now (table .entry)) (both (lent count (now (ids .entry)) codes) peer) (length (view (lent count (now (ids .entry)) codes))) (foundBy (readPeerLink linked) (view peer)) opened → PlaceOf (now (table .entry)) Operations code place → Weighs inApdu (now (value .entry)) weighed → Judged (now (table .entry)) (both (lent count (now (ids .entry)) codes) peer) (invoke (id .0) code (readPeerLink linked) (now (value .entry)) room) r) ⌝ }
 {
     let named = operation_in(table, place);
-    let fits = is_well(value, State::LEVELS - 1);
+    let fits = weighed.fits;
+    let finding = weighed.finding;
     let size = invoke_size(id, linked, code, value);
     let is_linked = is_peer_linked(linked);
     let verdict = opened.verdict;
@@ -99,7 +115,8 @@ pub(crate) fn check_invoke(
         .then(opened.busy, 6)
         .then(is_missing(is_linked, found), 7)
         .then(is_no_child(table, is_linked, opened.entry, place), 8)
-        .then(!is_well_formed(value, fits), 9)
+        .then(finding.is_fault(), 9)
+        .then(finding.is_more(), 21)
         .then(!value_right(named.argument(), value), 10)
         .then(lacks_room(named.class(), count, ids), 14)
         .then(is_large(fits, size), 15)
@@ -112,19 +129,22 @@ pub(crate) fn check_result(
     table: &[u8],
     id: PeerId,
     value: &[u8],
+    weighed: Weighed,
     room: usize,
 ) -> Verdict
-    ensures { λ r. ⌜ ((s : State) (asked : ℕ) → Opens (now (table .entry)) s asked (lookup (id .0) (peerRecords s)) opened → Judged (now (table .entry)) s (result (id .0) (now (value .entry)) room) r) ⌝ }
+    ensures { λ r. ⌜ ((s : State) (asked : ℕ) → Opens (now (table .entry)) s asked (lookup (id .0) (peerRecords s)) opened → Weighs inBody (now (value .entry)) weighed → Judged (now (table .entry)) s (result (id .0) (now (value .entry)) room) r) ⌝ }
 {
     let found = opened.found;
     let named = operation_at(table, opened.entry);
-    let fits = is_well(value, State::LEVELS - 2);
+    let fits = weighed.fits;
+    let finding = weighed.finding;
     let size = result_size(id, code_found(found), value);
     let verdict = opened.verdict;
     verdict
         .then(!is_found(found), 11)
         .then(is_class(3, 5, named.class()), 12)
-        .then(!is_well_formed(value, fits), 9)
+        .then(finding.is_fault(), 9)
+        .then(finding.is_more(), 21)
         .then(!value_right(named.result(), value), 10)
         .then(is_large(fits, size), 15)
         .then(room < size, 2)
@@ -137,15 +157,17 @@ pub(crate) fn check_error(
     id: PeerId,
     code: Code,
     value: &[u8],
+    weighed: Weighed,
     room: usize,
 ) -> Verdict
-    ensures { λ r. ⌜ ((s : State) (asked : ℕ) → Opens (now (table .entry)) s asked (lookup (id .0) (peerRecords s)) opened → Judged (now (table .entry)) s (error (id .0) code (now (value .entry)) room) r) ⌝ }
+    ensures { λ r. ⌜ ((s : State) (asked : ℕ) → Opens (now (table .entry)) s asked (lookup (id .0) (peerRecords s)) opened → Weighs inApdu (now (value .entry)) weighed → Judged (now (table .entry)) s (error (id .0) code (now (value .entry)) room) r) ⌝ }
 {
     let found = opened.found;
     let used = operation_at(table, opened.entry);
     let place = error_place(table, code);
     let named = error_in(table, place);
-    let fits = is_well(value, State::LEVELS - 1);
+    let fits = weighed.fits;
+    let finding = weighed.finding;
     let size = error_size(id, code, value);
     let verdict = opened.verdict;
     verdict
@@ -155,7 +177,8 @@ pub(crate) fn check_error(
             !(named.is_known() & is_paired_at(table, Place::At(opened.entry), place)),
             13,
         )
-        .then(!is_well_formed(value, fits), 9)
+        .then(finding.is_fault(), 9)
+        .then(finding.is_more(), 21)
         .then(!value_right(named.parameter(), value), 10)
         .then(is_large(fits, size), 15)
         .then(room < size, 2)

@@ -2,7 +2,7 @@
 use protocol::Refusal;
 ghost use mathlib.Core.Path.{_≡_};
 ghost use mathlib.Core.Bool.{true};
-ghost use Rattle.protocol.specs.Call.{plain};
+ghost use Rattle.protocol.specs.Call.{plain, namesPlace};
 ghost use Rattle.protocol.specs.Reading.{readRefusal};
 ghost use Rattle.rose.specs.Steps.{oneMore, isNumber};
 
@@ -29,6 +29,13 @@ impl Verdict {
     }
 }
 
+// Whether a refusal of this number names a place in the octets that were given.
+pub(crate) fn names_place(number: u8) -> bool
+    ensures { λ r. ⌜ r ≡ namesPlace (plain number) ⌝ }
+{
+    (number == 9) | ((number == 17) | (number == 21))
+}
+
 // The refusal of a number.
 pub(crate) fn refusal(number: u8) -> Refusal
     ensures { λ r. ⌜ (isNumber number ≡ true → readRefusal r ≡ plain number) ⌝ }
@@ -50,6 +57,7 @@ pub(crate) fn refusal(number: u8) -> Refusal
         14 => Refusal::RecordsFull,
         15 => Refusal::LargeApdu,
         16 => Refusal::WrongProblem,
+        21 => Refusal::TrailingOctets,
         _ => Refusal::UnsoundState,
     }
 }

@@ -1,29 +1,32 @@
 -- The refusal of the first check that fails, or the APDU and the new state.
-use mathlib.Core.Path.{_≡_, refl}
+use mathlib.Core.Path.{_≡_, refl, _∙_}
 use lib.ListN.{length}
 use Rattle.protocol.specs.Call.{Call, error}
+use Rattle.protocol.specs.Check.{inApdu}
 use Rattle.protocol.specs.Perform.{done}
 use Rattle.protocol.proofs.Facts.{error-facts}
 use Rattle.rose.proofs.Calls.{request-refused, request-accepted, all-pass, sent-fits}
 use Rattle.rose.specs.declared.verdict.Verdict.the-variants.{Passes}
 use Rattle.rose.specs.Steps.{Judged}
+use Rattle.rose.proofs.PartAnswers.{weighs-place}
 use borrow.Author.Needs.{needs}
 use Rattle.rose.proofs.error.Statement.{statement}
 use Rattle.rose.proofs.error.Tie as tie
 
 abbrev start : tie.After-check-error → tie.Start
-start c = c .before .before .before .before .before .before .before .before .before .before
+start c = c .before .before .before .before .before .before .before .before .before .before .before
 
 abbrev call : tie.Start → Call
 call c = error (c .args .id .0) (c .args .code) (c .args .value .now) (length (c .args .out .now))
 
 verdict : (c : tie.After-check-error) → Judged (start c .args .table .now) (start c .args .t1) (call (start c)) (c .check-error .result)
-verdict c = c .check-error .ensures (start c .args .t1) 0 (c .before .opening-of .ensures)
+verdict c = c .check-error .ensures (start c .args .t1) 0 (c .before .before .opening-of .ensures) (c .before .weigh .ensures inApdu refl)
 
 returns : tie.Need-returns
 returns c =
-    let why = c .before .before in let checked = why .before .before in let b = start checked .args in
-    request-refused (b .table .now) (b .t1) (call (start checked)) _ (verdict checked) (why .why .given .0 .0) (cc) (b .out .now) _ (c .refused .ensures)
+    let place = c .before in let why = place .before .before in let checked = why .before .before in let b = start checked .args in
+    request-refused (b .table .now) (b .t1) (call (start checked)) _ (verdict checked) (why .why .given .0 .0) (cc) (b .value .now) (b .out .now) _
+    (place .place .ensures ∙ weighs-place inApdu _ _ (checked .before .weigh .ensures inApdu refl)) _ (c .refused .ensures)
 
 passes : (a : tie.After-enum-told) → a .before .before .check-error .result ≡ Passes
 passes a = cc
@@ -34,12 +37,12 @@ returns-2 c =
     let retired = c .before in let written = retired .before .before .before in let told = written .before .before in
     let checked = told .before .before in let b = start checked .args in let T = b .table .now in let s = b .t1 in
     let passed = all-pass T s (call (start checked)) _ (verdict checked) (passes told) in
-    request-accepted T s (call (start checked)) _ (verdict checked) (passes told) _ (_)
+    request-accepted T s (call (start checked)) _ (verdict checked) (passes told) (b .value .now) _ (_)
     (rw (retired .retire-peer .ensures) refl) (b .out .now) _ _
     (sent-fits 1 (b .value .now) _ (b .out .now) (error-facts T s (b .id .0) (b .value .now) (length (b .out .now)) (b .code) passed .sendable)) (written .write-error .ensures) _ (c .accepted .ensures)
 
 pub error-spec : {M : Type 1} → statement M
 error-spec =
     tie.close
-    (tie.spec (λ c κs. search needs) (λ c κs. search needs) (λ c. search needs) (λ c κs. search needs) (λ c. search needs) (λ c κs. search needs)
+    (tie.spec (λ c κs. search needs) (λ c. search needs) (λ c κs. search needs) (λ c κs. search needs) (λ c. search needs) (λ c. search needs) (λ c κs. search needs) (λ c. search needs) (λ c κs. search needs)
     (λ c κs. search needs) (λ c κs. search needs) returns (λ c. search needs) returns-2)

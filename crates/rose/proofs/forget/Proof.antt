@@ -6,6 +6,7 @@ use Rattle.rose.specs.declared.verdict.Verdict.the-variants.{Passes}
 use Rattle.rose.specs.Steps.{Judged}
 use Rattle.rose.proofs.Calls.{request-refused, forget-accepted}
 use Rattle.rose.proofs.UsableAnswers.{opens-as}
+use Rattle.rose.proofs.PartAnswers.{no-octets}
 use borrow.Author.Needs.{needs}
 use Rattle.rose.proofs.forget.Statement.{statement}
 use Rattle.rose.proofs.forget.Tie as tie
@@ -21,7 +22,7 @@ verdict c =
 returns : tie.Need-returns
 returns c =
     let why = c .before .before in let checked = why .before .before in let b = start checked .args in
-    request-refused (b .table .now) (b .t1) (forgetting (b .invocation)) _ (verdict checked) (why .why .given .0 .0) (cc) [] _ (c .refused .ensures)
+    request-refused (b .table .now) (b .t1) (forgetting (b .invocation)) _ (verdict checked) (why .why .given .0 .0) (cc) [] [] 0 no-octets _ (c .refused .ensures)
 
 passes : (a : tie.After-enum-told) → a .before .before .check-forget .result ≡ Passes
 passes a = cc

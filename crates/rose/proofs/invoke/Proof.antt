@@ -6,6 +6,7 @@ use Rattle.optable.specs.Lookup.{classOf}
 use Rattle.optable.proofs.TableLaws.{operation-there}
 use Rattle.apdu.specs.Reading.{readPeerLink}
 use Rattle.protocol.specs.Call.{Call, invoke}
+use Rattle.protocol.specs.Check.{inApdu}
 use Rattle.protocol.specs.Perform.{done}
 use Rattle.protocol.proofs.Facts.{invoke-facts}
 use Rattle.rose.proofs.Verdicts.{checks-valid}
@@ -13,12 +14,16 @@ use Rattle.rose.proofs.Calls.{request-refused, request-accepted, all-pa
 use Rattle.rose.specs.declared.verdict.Verdict.the-variants.{Passes}
 use Rattle.rose.specs.Steps.{Judged}
 use Rattle.rose.proofs.UsableAnswers.{opens-as}
+use Rattle.rose.proofs.PartAnswers.{weighs-place}
 use borrow.Author.Needs.{needs}
 use Rattle.rose.proofs.invoke.Statement.{statement}
 use Rattle.rose.proofs.invoke.Tie as tie
 
+abbrev weighed : tie.After-check-invoke → tie.After-weigh
+weighed c = c .before .before .before
+
 abbrev placed : tie.After-check-invoke → tie.After-operation-place
-placed c = c .before .before .before
+placed c = weighed c .before
 
 abbrev start : tie.After-check-invoke → tie.Start
 start c = placed c .before .before .before .before .before .before .before .before .before .before .before .before .before .before
@@ -31,12 +36,13 @@ verdict c =
     let opened = placed c .before in let b = start c .args in let T = b .table .now in let s = b .t1 in
     c .check-invoke .ensures (s .own .codes) (s .peer)
     (opens-as T s _ _ _ _ _ (opened .before .before .live .ensures ∙ live-length (s .own .count) (s .own .ids) (s .own .codes)) (opened .before .peer-parent .ensures s) (opened .opening-of .ensures))
-    (placed c .operation-place .ensures)
+    (placed c .operation-place .ensures) (weighed c .weigh .ensures inApdu refl)
 
 returns : tie.Need-returns
 returns c =
-    let why = c .before .before in let checked = why .before .before in let b = start checked .args in
-    request-refused (b .table .now) (b .t1) (call (start checked)) _ (verdict checked) (why .why .given .0 .0) (cc) (b .out .now) _ (c .refused .ensures)
+    let place = c .before in let why = place .before .before in let checked = why .before .before in let b = start checked .args in
+    request-refused (b .table .now) (b .t1) (call (start checked)) _ (verdict checked) (why .why .given .0 .0) (cc) (b .value .now) (b .out .now) _
+    (place .place .ensures ∙ weighs-place inApdu _ _ (weighed checked .weigh .ensures inApdu refl)) _ (c .refused .ensures)
 
 passes : (a : tie.After-enum-told) → a .before .before .check-invoke .result ≡ Passes
 passes a = cc
@@ -48,7 +54,7 @@ returns-2 c =
     let checked = told .before .before in let b = start checked .args in let T = b .table .now in let s = b .t1 in
     let passed = all-pass T s (call (start checked)) _ (verdict checked) (passes told) in
     let valid = checks-valid T s (call (start checked)) passed in
-    request-accepted T s (call (start checked)) _ (verdict checked) (passes told) _ (_)
+    request-accepted T s (call (start checked)) _ (verdict checked) (passes told) (b .value .now) _ (_)
     (rw (next .with-own .ensures T (class .class .ensures ∙ ap classOf (named .operation-in .ensures ∙ operation-there T valid (b .code) _ (placed checked .operation-place .ensures)))) refl) (b .out .now) _ _
     (sent-fits 1 (b .value .now) _ (b .out .now) (invoke-facts T s (b .id .0) (b .value .now) (length (b .out .now)) (b .code) (readPeerLink (b .linked)) passed .sendable))
     (written .write-invoke .ensures) _ (c .accepted .ensures)
@@ -56,6 +62,7 @@ returns-2 c =
 pub invoke-spec : {M : Type 1} → statement M
 invoke-spec =
     tie.close
-    (tie.spec (λ c κs. search needs) (λ c κs. search needs) (λ c κs. search needs) (λ c κs. search needs) (λ c κs. search needs) (λ c. search needs)
+    (tie.spec (λ c κs. search needs) (λ c κs. search needs) (λ c κs. search needs) (λ c κs. search needs) (λ c. search needs) (λ c κs. search needs)
+    (λ c κs. search needs) (λ c. search needs) (λ c. search needs)
     (λ c κs. search needs) (λ c. search needs) (λ c κs. search needs) (λ c κs. search needs) (λ c κs. search needs) (λ c κs. search needs)
     (λ c κs. search needs) returns (λ c. search needs) returns-2)

@@ -6,8 +6,8 @@ use Rattle.apdu.specs.Reading.{readParsed}
 use Rattle.protocol.specs.Check.{ownRecords}
 use Rattle.protocol.specs.Call.{Call, receive}
 use Rattle.rose.specs.declared.verdict.Verdict.the-variants.{Passes}
-use Rattle.rose.specs.Steps.{Judged, leadsTo, StandsAt}
-use Rattle.rose.proofs.Verdicts.{checks-valid, opened-passes}
+use Rattle.rose.specs.Steps.{Judged, leadsTo, faultIn, StandsAt}
+use Rattle.rose.proofs.Verdicts.{checks-valid, opened-passes, receive-unnamed}
 use Rattle.rose.proofs.Calls.{receive-refused, all-pass}
 use Rattle.rose.proofs.Receiving.{short, received}
 use borrow.Author.Needs.{needs}
@@ -35,7 +35,7 @@ passes a = cc
 returns : tie.Need-returns
 returns c =
     let why = c .before .before in let checked = why .before .before in let b = start checked .args in
-    receive-refused (b .table .now) (b .t1) (call (start checked)) _ (verdict checked) (why .why .given .0 .0) (cc) (b .apdu .now) (b .out .now) _ (c .unheard .ensures)
+    receive-refused (b .table .now) (b .t1) (call (start checked)) _ (verdict checked) (why .why .given .0 .0) (cc) (b .apdu .now) (b .out .now) (receive-unnamed (b .table .now) (b .t1) (b .apdu .now) (length (b .out .now))) _ (c .unheard .ensures)
 
 -- where the checks pass: the APDU is as it was parsed, and the operation of the record that it leads to stands where the walk says
 module _ (c : tie.After-check-receive) (o : c .check-receive .result ≡ Passes) where
@@ -59,13 +59,13 @@ arrive-requires c κs =
 
 returns-2 : tie.Need-returns-2
 returns-2 c =
-    let written = c .before .before .before in let arrived = written .before .before in let told = arrived .before .before .before in
+    let changed = c .before in let written = changed .before .before .before in let arrived = written .before .before in let told = arrived .before .before .before in
     let checked = told .before .before in let b = start checked .args in
-    received (b .table .now) (b .t1) (b .apdu .now) (b .out .now) _ (verdict checked) (passes told) (arrived .arrive .result) (arrived .arrive .ensures (b .t1 .own) (b .t1 .peer .codes) (leads checked (passes told))) _ (c .changed .ensures) _ _
-    (written .write-answer .ensures)
+    received (b .table .now) (b .t1) (b .apdu .now) (b .out .now) _ (verdict checked) (passes told) (arrived .arrive .result) (arrived .arrive .ensures (b .t1 .own) (b .t1 .peer .codes) (leads checked (passes told))) _ (changed .changed .ensures) _ _
+    (written .write-answer .ensures) _ (c .fault-in .ensures (b .apdu .now) ∙ ap faultIn (parsed checked (passes told)))
 
 pub receive-spec : {M : Type 1} → statement M
 receive-spec =
     tie.close
     (tie.spec (λ c κs. search needs) (λ c κs. search needs) (λ c κs. search needs) (λ c κs. search needs) (λ c. search needs) (λ c κs. search needs)
-    (λ c. search needs) arrive-requires (λ c κs. search needs) (λ c κs. search needs) returns (λ c. search needs) returns-2)
+    (λ c. search needs) arrive-requires (λ c κs. search needs) (λ c κs. search needs) (λ c κs. search needs) returns (λ c. search needs) returns-2)

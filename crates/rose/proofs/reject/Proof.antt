@@ -1,11 +1,13 @@
 -- The refusal of the first check that fails, or the APDU and the new state.
 use mathlib.Core.Path.{_≡_, refl}
+use mathlib.Core.List.{[]}
 use lib.ListN.{length}
 use Rattle.protocol.specs.Call.{Call, reject}
 use Rattle.protocol.specs.Perform.{done}
 use Rattle.rose.proofs.Calls.{request-refused, request-accepted, all-pass, reject-sent}
 use Rattle.rose.specs.declared.verdict.Verdict.the-variants.{Passes}
 use Rattle.rose.specs.Steps.{Judged}
+use Rattle.rose.proofs.PartAnswers.{no-octets}
 use borrow.Author.Needs.{needs}
 use Rattle.rose.proofs.reject.Statement.{statement}
 use Rattle.rose.proofs.reject.Tie as tie
@@ -22,7 +24,7 @@ verdict c = c .check-reject .ensures (start c .args .table .now) (start c .args 
 returns : tie.Need-returns
 returns c =
     let why = c .before .before in let checked = why .before .before in let b = start checked .args in
-    request-refused (b .table .now) (b .t1) (call (start checked)) _ (verdict checked) (why .why .given .0 .0) (cc) (b .out .now) _ (c .refused .ensures)
+    request-refused (b .table .now) (b .t1) (call (start checked)) _ (verdict checked) (why .why .given .0 .0) (cc) [] (b .out .now) 0 no-octets _ (c .refused .ensures)
 
 passes : (a : tie.After-enum-told) → a .before .before .check-reject .result ≡ Passes
 passes a = cc
@@ -33,7 +35,7 @@ returns-2 c =
     let retired = c .before in let written = retired .before .before .before in let told = written .before .before in
     let checked = told .before .before in let b = start checked .args in let T = b .table .now in let s = b .t1 in
     let passed = all-pass T s (call (start checked)) _ (verdict checked) (passes told) in
-    request-accepted T s (call (start checked)) _ (verdict checked) (passes told) _ (_)
+    request-accepted T s (call (start checked)) _ (verdict checked) (passes told) [] _ (_)
     (rw (retired .retire-peer .ensures) refl) (b .out .now) _ _
     (reject-sent T s (b .id .0) (b .problem) (b .out .now) passed) (written .write-reject .ensures) _ (c .accepted .ensures)
 

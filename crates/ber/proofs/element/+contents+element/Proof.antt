@@ -7,8 +7,9 @@ use Prim.Native.Nat.{ℕ, _<_, _≤_, _+_, _-_}
 use Rattle.base.proofs.Lists.{rest}
 use Rattle.ber.specs.Element.{foundBehind, elementsIn, elementOf}
 use Rattle.ber.proofs.HeaderLaws.{identifier-within}
+use Rattle.ber.proofs.ElementLaws.{behind-none}
 use Rattle.ber.proofs.ElementAnswers.{behind-no-level, behind-no-length, open-room, definite-room, countable, behind-open-primitive, behind-open, behind-cut, behind-primitive, behind-definite}
-use Rattle.ber.proofs.ContentsAnswers.{behind-none, loop-counted, loop-end, loop-closed, loop-refused, loop-wrong, loop-place, loop-room, loop-step}
+use Rattle.ber.proofs.ContentsAnswers.{loop-counted, loop-end, loop-closed, loop-refused, loop-wrong, loop-place, loop-room, loop-step}
 use borrow.Fn.Kinds.{In}
 use borrow.Fn.PlainCycle.{Measures, is, falls, and}
 use Rattle.ber.proofs.element.contents.Reads as contents
@@ -50,19 +51,18 @@ contents-calls t =
     (identifier-octets-reads.Asked, identifier-octets-reads.Learnt, is-closing-reads.Asked, is-closing-reads.Learnt, element-below t, element.Post)
 
 abbrev element-calls : ℕ → element-lts.Claims
-element-calls t =
-    (
-      length-of-reads.Asked,
-      length-of-reads.Learnt,
-      contents-below t,
-      contents.Post,
-      closed-reads.Asked,
-      closed-reads.Learnt,
-      primitive-reads.Asked,
-      primitive-reads.Learnt,
-      filled-reads.Asked,
-      filled-reads.Learnt,
-    )
+element-calls t = (
+  length-of-reads.Asked,
+  length-of-reads.Learnt,
+  contents-below t,
+  contents.Post,
+  closed-reads.Asked,
+  closed-reads.Learnt,
+  primitive-reads.Asked,
+  primitive-reads.Learnt,
+  filled-reads.Asked,
+  filled-reads.Learnt,
+)
 
 -- what is left decides
 abbrev contents-Inv-loop : contents-lts.InvT-loop

@@ -8,7 +8,7 @@ use Rattle.rose.proofs.answer.unheard.Tie as tie
 
 returns : tie.Need-returns
 unfolding readReception
-returns c = record { reception = λ k x t w. ap refused (c .refusal .ensures k); state = refl; written = refl }
+returns c = record { reception = λ k x t w. ap refused (c .refusal .ensures k); state = refl; written = refl; place = refl }
 
 pub unheard-spec : {M : Type 1} → statement M
 unheard-spec = tie.close (tie.spec (λ c κs. search needs) returns)

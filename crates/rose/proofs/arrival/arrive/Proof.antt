@@ -23,8 +23,9 @@ lent-state c own codes = both own (lent (c .args .count) (c .args .ids .now) cod
 
 returns : tie.Need-returns
 returns c = λ own codes e.
-    let start = c .before .before .before .before .before in let T = start .args .table .now in let x = start .args .x .now in let s = lent-state start own codes in
-    arrives-wrong T s x (start .args .parsed) (start .pre .1 .1) BadlyStructured (cc) _ (fault x 2 Absent) (on-structure T s x) (c .arrive-wrong .ensures s)
+    let told = c .before in let start = told .before .before .before .before in let p = told .enum-told .given .0 .0 in
+    let T = start .args .table .now in let x = start .args .x .now in let s = lent-state start own codes in
+    arrives-wrong T s x (start .args .parsed) (start .pre .1 .1) (BadlyStructured p) (cc) _ (fault x 2 Absent) (on-structure T s x p) (c .arrive-wrong .ensures s)
 
 returns-2 : tie.Need-returns-2
 returns-2 c = λ own codes e.

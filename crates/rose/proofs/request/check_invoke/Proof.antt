@@ -1,4 +1,4 @@
--- 19 and 1, then 4, 5, 6, 7, 8, 9, 10, 14, 15, 2.
+-- 19 and 1, then 4, 5, 6, 7, 8, 9, 21, 10, 14, 15, 2.
 use mathlib.Core.Path.{_≡_, refl, sym, _∙_}
 use mathlib.Core.Bool.{true}
 use Rattle.records.specs.Records.{lent, view}
@@ -19,12 +19,12 @@ use Rattle.rose.proofs.request.check_invoke.Tie as tie
 
 returns : tie.Need-returns
 unfolding laterChecks withinLimits
-returns c = λ codes peer o w.
+returns c = λ codes peer o w k.
     let fifteen = c .before in let large = fifteen .before in let fourteen = large .before in let full = fourteen .before in let class = full .before in
-    let ten = class .before in let right = ten .before in let rule = right .before in let nine = rule .before in let formed = nine .before in
-    let eight = formed .before in let child = eight .before in let seven = child .before in let orphan = seven .before in let six = orphan .before in
+    let ten = class .before in let right = ten .before in let rule = right .before in let twenty-one = rule .before in let more = twenty-one .before in
+    let nine = more .before in let faulty = nine .before in let eight = faulty .before in let child = eight .before in let seven = child .before in let orphan = seven .before in let six = orphan .before in
     let five = six .before in let used = five .before in let four = used .before in let listed = four .before in let linked = listed .before in
-    let size = linked .before in let fits = size .before in let named = fits .before in let b = named .before .before .before .args in let T = b .table .now in
+    let size = linked .before in let named = size .before in let b = named .before .before .before .args in let T = b .table .now in
     let l = readPeerLink (b .linked) in
     let s = both (lent (b .count) (b .ids .now) codes) peer in
     let n : valid T ≡ true → named .operation-in .result ≡ operationOf T (b .code) = λ v. named .operation-in .ensures ∙ operation-there T v (b .code) (b .place) w in
@@ -35,16 +35,17 @@ returns c = λ codes peer o w.
     (made-so (seven .then4 .ensures) (λ _. rw (orphan .is-missing .ensures, linked .is-peer-linked .ensures, o .found) (missing-is (view peer) l))
     (λ h z. parented T (view peer) l (b .opened .entry) (b .opened .found) (o .found) (h .0) (h .1 .1) z)
     (made (eight .then5 .ensures) (λ h. child .is-no-child .ensures (codeIn (view peer) (linkedTo l)) (b .code) (λ p. h .place (sym (linked .is-peer-linked .ensures) ∙ p)) w (h .valid) ∙ rw (linked .is-peer-linked .ensures) refl)
-    (made (nine .then6 .ensures) (λ _. rw (formed .is-well-formed .ensures 1 (fits .is-well .ensures)) refl)
-    (made (ten .then7 .ensures) (λ h. rw (right .value-right .ensures, rule .argument .ensures, n (h .valid)) refl)
-    (made (fourteen .then8 .ensures) (λ h. rw (full .lacks-room .ensures codes, class .class .ensures, n (h .valid)) refl)
-    (made (fifteen .then9 .ensures) (λ _. rw (large .is-large .ensures, size .invoke-size .ensures, fits .is-well .ensures) refl)
-    (made (c .then10 .ensures) (λ _. rw (size .invoke-size .ensures) refl) last))))))))))
+    (made (nine .then6 .ensures) (λ _. rw (faulty .is-fault .ensures, k .finding) refl)
+    (made (twenty-one .then7 .ensures) (λ _. rw (more .is-more .ensures, k .finding) refl)
+    (made (ten .then8 .ensures) (λ h. rw (right .value-right .ensures, rule .argument .ensures, n (h .valid)) refl)
+    (made (fourteen .then9 .ensures) (λ h. rw (full .lacks-room .ensures codes, class .class .ensures, n (h .valid)) refl)
+    (made (fifteen .then10 .ensures) (λ _. rw (large .is-large .ensures, size .invoke-size .ensures, k .fits) refl)
+    (made (c .then11 .ensures) (λ _. rw (size .invoke-size .ensures) refl) last)))))))))))
 
 pub check-invoke-spec : {M : Type 1} → statement M
 check-invoke-spec =
     tie.close
-    (tie.spec (λ c κs. search needs) (λ c. search needs) (λ c κs. search needs) (λ c κs. search needs) (λ c κs. search needs) (λ c κs. search needs)
+    (tie.spec (λ c κs. search needs) (λ c κs. search needs) (λ c κs. search needs) (λ c κs. search needs) (λ c κs. search needs) (λ c κs. search needs)
     (λ c κs. search needs) (λ c κs. search needs) (λ c κs. search needs) (λ c κs. search needs) (λ c κs. search needs) (λ c κs. search needs)
     (λ c κs. search needs) (λ c κs. search needs) (λ c κs. search needs) (λ c κs. search needs) (λ c κs. search needs) (λ c κs. search needs)
     (λ c κs. search needs) (λ c κs. search needs) (λ c κs. search needs) (λ c κs. search needs) (λ c κs. search needs) (λ c κs. search needs)

@@ -1,0 +1,14 @@
+-- Fewer levels are enough, else the full ones are tried.
+use borrow.Author.Needs.{needs}
+use Rattle.rose.proofs.PartAnswers.{weighs-well, weighs-not}
+use Rattle.rose.proofs.request.weigh.Statement.{statement}
+use Rattle.rose.proofs.request.weigh.Tie as tie
+
+returns : tie.Need-returns
+returns c = λ down e. weighs-well down _ e _ _ (c .before .is-well .ensures) (c .if1 .taken)
+
+returns-2 : tie.Need-returns-2
+returns-2 c = λ down e. let if1 = c .before in weighs-not down _ e _ _ (if1 .before .is-well .ensures) (if1 .if1 .left) _ (c .finding-in .ensures)
+
+pub weigh-spec : {M : Type 1} → statement M
+weigh-spec = tie.close (tie.spec (λ c κs. search needs) returns (λ c κs. search needs) returns-2)
