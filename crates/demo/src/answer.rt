@@ -3,11 +3,13 @@ use crate::words::number;
 use crate::words::say;
 use apdu::Body;
 use apdu::Number;
+use apdu::Span;
 use apdu::Value;
 use apdu::parse::octets_of;
 use protocol::Indication;
 use protocol::Reception;
 use protocol::Refusal;
+use text::out::decimal;
 use text::out::octets;
 use text::out::problem_name;
 
@@ -93,9 +95,32 @@ pub(crate) fn refusal_words(why: Refusal) {
     }
 }
 
-pub(crate) fn reception_words(x: &[u8], reception: Reception) {
+// Where octets that are badly structured are at fault, and what stands there.
+fn place_words(x: &[u8], why: Refusal, place: usize) {
+    let problem = why.problem();
+    if problem.kind == 0x80 && problem.number == 2 {
+        say(b"\n   the fault is at   octet ");
+        decimal(1, place as u64);
+        say(b":");
+        octets(
+            1,
+            octets_of(
+                x,
+                Span {
+                    at: place,
+                    end: x.len(),
+                },
+            ),
+        );
+    }
+}
+
+pub(crate) fn reception_words(x: &[u8], reception: Reception, place: usize) {
     match reception {
         Reception::Indicated(said) => indication_words(x, said),
-        Reception::Refused(why) => refusal_words(why),
+        Reception::Refused(why) => {
+            refusal_words(why);
+            place_words(x, why, place);
+        }
     }
 }

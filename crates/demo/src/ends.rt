@@ -177,7 +177,7 @@ pub(crate) fn kiosk_reads(mut site: Site) -> Site {
     let next = r.state;
     let reception = r.reception;
     say(b"   kiosk reads       ");
-    reception_words(x, reception);
+    reception_words(x, reception, r.place);
     say(b"\n   kiosk records     ");
     let day = recorded(day, x, reception);
     say(b"\n");
@@ -199,7 +199,7 @@ pub(crate) fn controller_reads(mut site: Site) -> Site {
     let next = r.state;
     let reception = r.reception;
     say(b"   controller reads  ");
-    reception_words(x, reception);
+    reception_words(x, reception, r.place);
     say(b"\n");
     let answer = sent(b"   controller sends ", before, out, r.written);
     site.controller = next;

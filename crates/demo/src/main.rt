@@ -69,19 +69,24 @@ fn late(mut site: Site) -> Site {
     kiosk_reads(site)
 }
 
-fn not_understood(mut site: Site) -> Site {
-    say(b"\n7. A newer controller: an error that the kiosk's table does not have\n");
-    site = ask(site, 10);
-    site = error(site, 10, 2);
-    site = kiosk_reads(site);
-    site = controller_reads(site);
-    site = forget(site, 10);
+// The kiosk waits no longer for an answer that it could read.
+fn given_up(mut site: Site, id: u32) -> Site {
+    site = forget(site, id);
     let day = site.day;
     say(b"   kiosk records     ");
     let day = with_unknown(day);
     say(b"\n");
     site.day = day;
     site
+}
+
+fn not_understood(mut site: Site) -> Site {
+    say(b"\n7. A newer controller: an error that the kiosk's table does not have\n");
+    site = ask(site, 10);
+    site = error(site, 10, 2);
+    site = kiosk_reads(site);
+    site = controller_reads(site);
+    given_up(site, 10)
 }
 
 // A result and its 30 of indefinite lengths, 17 octets.
@@ -96,6 +101,21 @@ fn indefinite(mut site: Site) -> Site {
     kiosk_reads(site)
 }
 
+// A result whose value, 00 0e, is not in shortest form, 14 octets.
+const WRONG: [u8; 32] = *b"\
+    \xa2\x0c\x02\x01\x0c\x30\x07\x02\x01\x07\x02\x02\x00\x0e\
+    \x00\x00\x00\x00\x00\x00\x00\x00\x00\x00\x00\x00\x00\x00\x00\x00\x00\x00";
+
+fn at_fault(mut site: Site) -> Site {
+    say(
+        b"\n9. A controller of another make: its number is not in shortest form, and the kiosk says where\n",
+    );
+    site = ask(site, 12);
+    site = other_make(site, WRONG, 14);
+    site = kiosk_reads(site);
+    given_up(site, 12)
+}
+
 fn main() {
     say(b"A water kiosk asks a probe controller for chlorine readings; the channel can fail.\n");
     say(b"Operation 7 reads the probe that its argument names, in hundredths of a mg/l.\n");
@@ -108,6 +128,7 @@ fn main() {
     site = late(site);
     site = not_understood(site);
     site = indefinite(site);
+    site = at_fault(site);
     let day = site.day;
     close(day);
 }

@@ -39,13 +39,32 @@ fn unrecognized_line(first: u8) {
     );
 }
 
-fn why_line(first: u8, number: u8) {
+fn first_octet(x: &[u8]) -> u8 {
+    if x.len() == 0 {
+        return 0;
+    }
+    x[0]
+}
+
+// The place of the first fault is the first octet of an element, or the first one behind the APDU.
+fn fault_line(x: &[u8], at: usize) {
+    if x.len() == 0 {
+        say(b"  there are no octets");
+        return;
+    }
+    words(
+        1,
+        b"  these octets are not one well-formed element: the first fault is at octet ",
+    );
+    decimal(1, at as u64);
+    words(1, b", by the tree's first column\n");
+}
+
+fn why_line(x: &[u8], number: u8, at: usize) {
     match number {
-        0 => unrecognized_line(first),
-        1 => fields_line(first),
-        _ => say(
-            b"  these octets are not one well-formed element: the tree stops, or says 'wrong contents', where they are not",
-        ),
+        0 => unrecognized_line(first_octet(x)),
+        1 => fields_line(first_octet(x)),
+        _ => fault_line(x, at),
     }
 }
 
@@ -69,17 +88,17 @@ fn answer_line(id: Number, number: u8) {
     words(1, b"\n");
 }
 
-// Octets that are no right APDU: a general problem, or 17 if their first octet is a Reject's.
-pub(crate) fn refused_lines(first: u8, number: u8, id: Number) {
-    if first == 0xA4 {
+// Octets that are no right APDU, at fault at a place if they are not well formed: a general problem, or 17 if their first octet is a Reject's.
+pub(crate) fn refused_lines(x: &[u8], number: u8, id: Number, at: usize) {
+    if first_octet(x) == 0xA4 {
         say(b"refused with 17, unacceptable Reject; a Reject is never answered");
-        why_line(first, number);
+        why_line(x, number, at);
         return;
     }
     words(1, b"refused with 18, ");
     problem_name(1, 0x80, number);
     words(1, b"\n");
-    why_line(first, number);
+    why_line(x, number, at);
     answer_line(id, number);
 }
 

@@ -11,13 +11,6 @@ use apdu::Parsed;
 use apdu::parse::parse;
 use records::State;
 
-fn first_octet(octets: &[u8]) -> u8 {
-    if octets.len() == 0 {
-        return 0;
-    }
-    octets[0]
-}
-
 fn said(octets: &[u8], p: Parsed) {
     match p {
         Parsed::Invoke {
@@ -41,12 +34,11 @@ pub(crate) fn verdict(octets: &[u8]) {
         long_line(octets.len());
         return;
     }
-    let first = first_octet(octets);
     let p = parse(octets);
     match p {
-        Parsed::BadlyStructured => refused_lines(first, 2, Number::Absent),
-        Parsed::Unrecognized => refused_lines(first, 0, Number::Absent),
-        Parsed::Mistyped(id) => refused_lines(first, 1, id),
+        Parsed::BadlyStructured { at } => refused_lines(octets, 2, Number::Absent, at),
+        Parsed::Unrecognized => refused_lines(octets, 0, Number::Absent, 0),
+        Parsed::Mistyped(id) => refused_lines(octets, 1, id, 0),
         _ => {
             said(octets, p);
             let alone =

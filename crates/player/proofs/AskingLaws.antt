@@ -81,9 +81,9 @@ value-none x v e = rw e
 -- ---- the call that an entry fits
 
 module _ (T : List ℕ) (s : State) (x : List ℕ) (o : Option Call) (r : Requested) where
-  pub asks : (c : Call) (before after : List ℕ) → o ≡ some c → RequestPromise (perform T s c) s before after r → readRequested r after x ≡ asked T s x o
+  pub asks : (c : Call) (given before after : List ℕ) → o ≡ some c → RequestPromise (perform T s c) s given before after r → readRequested r after x ≡ asked T s x o
   unfolding asked readRequested
-  asks c before after e h =
+  asks c given before after e h =
       rw e (held-right (perform T s c) s (r .state) (part after 0 (r .written)) x (r .outcome) (h .answers) (h .state) (front _ before after (r .written) (h .written)))
 
   pub asks-nothing : (out : List ℕ) → o ≡ none → readRequested r out x ≡ differs → readRequested r out x ≡ asked T s x o
@@ -124,7 +124,7 @@ others = 1 ∷ 2 ∷ 7 ∷ 8 ∷ 9 ∷ []
 -- what is no Invoke, Result, Error or Reject of an invocation is no request
 no-request : (x : List ℕ) (p : Parsed) → OneOf (0 ∷ others) (tagOf parsed.the-type p) → requestOf (readParsed x p) ≡ none
 unfolding readParsed requestOf
-no-request x BadlyStructured h = refl
+no-request x (BadlyStructured p) h = refl
 no-request x Unrecognized h = refl
 no-request x (Mistyped i) h = refl
 no-request x (Invoke i l c v) h = absurd (no-key 0 others 3 refl h)

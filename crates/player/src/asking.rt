@@ -49,6 +49,7 @@ pub(crate) fn unfit(state: State) -> Requested
         state,
         outcome: Outcome::Refused(Refusal::MalformedValue),
         written: 0,
+        place: 0,
     }
 }
 

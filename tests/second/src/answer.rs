@@ -1,12 +1,12 @@
 //! What the six calls answer: indications, refusals and problems.
-//! Follows document 01, "Receiving" and the table of refusal numbers.
+//! Follows document 01, "Receiving" and the table of refusal numbers, with document 02, request Four.
 
 /// The calls and the refusals each can give, in order of check.
 pub const REFUSALS: [(&str, &[u8]); 6] = [
     ("receive", &[19, 1, 3, 2, 17, 18]),
-    ("invoke", &[19, 1, 4, 5, 6, 7, 8, 9, 10, 14, 15, 2]),
-    ("result", &[19, 1, 11, 12, 9, 10, 15, 2]),
-    ("error", &[19, 1, 11, 12, 13, 9, 10, 15, 2]),
+    ("invoke", &[19, 1, 4, 5, 6, 7, 8, 9, 21, 10, 14, 15, 2]),
+    ("result", &[19, 1, 11, 12, 9, 21, 10, 15, 2]),
+    ("error", &[19, 1, 11, 12, 13, 9, 21, 10, 15, 2]),
     ("user reject", &[19, 1, 16, 11, 2]),
     ("forget", &[19, 1, 11, 12]),
 ];
@@ -29,6 +29,14 @@ impl<'a> Answer<'a> {
     pub fn written(&self) -> usize {
         match *self {
             Answer::Sent { written } | Answer::Refused(Refusal::Rejected { written, .. }) => written,
+            _ => 0,
+        }
+    }
+
+    /// The place of the first fault of the octets that were given, 0 for every answer that is not about one.
+    pub fn place(&self) -> usize {
+        match self {
+            Answer::Refused(refusal) => refusal.place(),
             _ => 0,
         }
     }
@@ -134,7 +142,7 @@ impl Problem {
     }
 }
 
-/// Why a call was refused.
+/// Why a call was refused. A place is that of the first fault of the octets that were given.
 #[derive(Clone, Copy, Debug, PartialEq, Eq)]
 pub enum Refusal {
     InvalidTable,
@@ -145,7 +153,9 @@ pub enum Refusal {
     SynchronousInvocationLive,
     UnknownLinkedId,
     NotAChild,
-    MalformedValue,
+    MalformedValue {
+        place: usize,
+    },
     ValueRuleBroken,
     NoSuchRecord,
     ClassForbids,
@@ -153,44 +163,61 @@ pub enum Refusal {
     OwnRecordsFull,
     ApduTooLarge,
     NoUserProblem,
-    UnacceptableReject,
-    /// A Reject of this many octets was written.
+    /// The place is 0 if only the fields are wrong.
+    UnacceptableReject {
+        place: usize,
+    },
+    /// A Reject of this many octets was written; the place is 0 but for a badly structured APDU.
     Rejected {
         problem: Problem,
         written: usize,
+        place: usize,
     },
     UnsoundState,
+    OctetsBehindValue {
+        place: usize,
+    },
 }
 
 impl Refusal {
-    /// Every refusal but 18, in document 01's order.
-    const PLAIN: [Refusal; 18] = [
-        Refusal::InvalidTable,
-        Refusal::ShortOutput,
-        Refusal::ReceivedTooLong,
-        Refusal::UnknownOperation,
-        Refusal::IdInUse,
-        Refusal::SynchronousInvocationLive,
-        Refusal::UnknownLinkedId,
-        Refusal::NotAChild,
-        Refusal::MalformedValue,
-        Refusal::ValueRuleBroken,
-        Refusal::NoSuchRecord,
-        Refusal::ClassForbids,
-        Refusal::UnlistedError,
-        Refusal::OwnRecordsFull,
-        Refusal::ApduTooLarge,
-        Refusal::NoUserProblem,
-        Refusal::UnacceptableReject,
-        Refusal::UnsoundState,
-    ];
-
-    /// The refusal of a number, if there is one that needs no problem.
-    pub fn plain(number: u8) -> Option<Refusal> {
-        Self::PLAIN.into_iter().find(|refusal| refusal.number() == number)
+    /// The refusal of a number, if there is one that needs no problem; with the place, if it has one.
+    pub fn plain(number: u8, place: usize) -> Option<Refusal> {
+        let every_other_than_18 = [
+            Refusal::InvalidTable,
+            Refusal::ShortOutput,
+            Refusal::ReceivedTooLong,
+            Refusal::UnknownOperation,
+            Refusal::IdInUse,
+            Refusal::SynchronousInvocationLive,
+            Refusal::UnknownLinkedId,
+            Refusal::NotAChild,
+            Refusal::MalformedValue { place },
+            Refusal::ValueRuleBroken,
+            Refusal::NoSuchRecord,
+            Refusal::ClassForbids,
+            Refusal::UnlistedError,
+            Refusal::OwnRecordsFull,
+            Refusal::ApduTooLarge,
+            Refusal::NoUserProblem,
+            Refusal::UnacceptableReject { place },
+            Refusal::UnsoundState,
+            Refusal::OctetsBehindValue { place },
+        ];
+        every_other_than_18.into_iter().find(|refusal| refusal.number() == number)
     }
 
-    /// Document 01's number.
+    /// The place of the first fault of the octets that were given, 0 for refusals that are not about one.
+    pub fn place(self) -> usize {
+        match self {
+            Refusal::MalformedValue { place }
+            | Refusal::OctetsBehindValue { place }
+            | Refusal::UnacceptableReject { place }
+            | Refusal::Rejected { place, .. } => place,
+            _ => 0,
+        }
+    }
+
+    /// The papers' number.
     pub fn number(self) -> u8 {
         match self {
             Refusal::InvalidTable => 1,
@@ -201,7 +228,7 @@ impl Refusal {
             Refusal::SynchronousInvocationLive => 6,
             Refusal::UnknownLinkedId => 7,
             Refusal::NotAChild => 8,
-            Refusal::MalformedValue => 9,
+            Refusal::MalformedValue { .. } => 9,
             Refusal::ValueRuleBroken => 10,
             Refusal::NoSuchRecord => 11,
             Refusal::ClassForbids => 12,
@@ -209,9 +236,10 @@ impl Refusal {
             Refusal::OwnRecordsFull => 14,
             Refusal::ApduTooLarge => 15,
             Refusal::NoUserProblem => 16,
-            Refusal::UnacceptableReject => 17,
+            Refusal::UnacceptableReject { .. } => 17,
             Refusal::Rejected { .. } => 18,
             Refusal::UnsoundState => 19,
+            Refusal::OctetsBehindValue { .. } => 21,
         }
     }
 }

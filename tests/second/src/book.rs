@@ -26,7 +26,7 @@ struct Given {
 }
 
 /// What must occur often enough in a long run.
-pub const ROWS: [&str; 14] = [
+pub const ROWS: [&str; 16] = [
     "results",
     "absent results",
     "errors",
@@ -41,6 +41,8 @@ pub const ROWS: [&str; 14] = [
     "results given with an indefinite value",
     "errors given with an indefinite value",
     "invokes heard with an indefinite value",
+    "values at fault refused with 9",
+    "values with octets behind refused with 21",
 ];
 
 /// The book of one association, and how often each row occurred.
@@ -89,6 +91,13 @@ impl Book {
         if end == End::Kiosk && frame.kind == frame::RECEIVE {
             self.check_answer(o, frame.payload, answer)?;
             self.check_indication(answer)?;
+        }
+        match answer {
+            Answer::Refused(Refusal::MalformedValue { .. }) => self.count("values at fault refused with 9"),
+            Answer::Refused(Refusal::OctetsBehindValue { .. }) => {
+                self.count("values with octets behind refused with 21");
+            }
+            _ => {}
         }
         if answer.is_accepted() {
             match end {

@@ -1,4 +1,4 @@
-//! Which rows of document 01 the generated scripts reach, and how often.
+//! Which rows of the papers the generated scripts reach, and how often.
 
 use crate::answer::{Answer, Problem, Refusal, REFUSALS};
 use crate::faults;
@@ -9,6 +9,7 @@ use crate::looked_up;
 use crate::model::Model;
 use crate::observe::{accepted_kinds, expects, record_limits, rejected_id_is_live, sort, value_limits};
 use crate::oddities::{ARRIVALS, VALUES};
+use crate::placed;
 use crate::rows::Rows;
 
 pub const SEEDS: u64 = 80;
@@ -152,6 +153,7 @@ impl Default for Coverage {
         }
         looked_up::rows().into_iter().for_each(|row| coverage.row(row));
         forms::rows().into_iter().for_each(|row| coverage.row(row));
+        placed::rows().into_iter().for_each(|row| coverage.row(row));
         for kind in ["an invoke", "an answer", "a reject", "a request", "a forget", "refusal 18", "another refusal"] {
             coverage.row(format!("follow-up: accepted after {kind}"));
         }
@@ -195,6 +197,7 @@ impl Coverage {
         }
         looked_up::rows_of(seen).into_iter().for_each(|row| self.count(row));
         forms::rows_of(call, seen).into_iter().for_each(|row| self.count(row));
+        placed::rows_of(call, seen).into_iter().for_each(|row| self.count(row));
         if let Some(label) = seen.label.filter(|label| expects(label.0, seen)) {
             self.count(label_row(label));
         }

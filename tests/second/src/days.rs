@@ -44,7 +44,7 @@ impl Logged {
 /// Keeps what a call received, sent or forgot, and the Reject behind a refused APDU.
 pub(crate) fn note(day: &mut Vec<Logged>, frame: &Frame<'_>, answer: &Answer<'_>, written: &[u8]) {
     match answer {
-        Answer::Indicated(_) | Answer::Refused(Refusal::UnacceptableReject) => {
+        Answer::Indicated(_) | Answer::Refused(Refusal::UnacceptableReject { .. }) => {
             day.push(Logged::new(RECEIVED, frame.payload));
         }
         Answer::Refused(Refusal::Rejected { .. }) if !frame.payload.is_empty() => {

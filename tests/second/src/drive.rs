@@ -119,9 +119,9 @@ impl Drive {
     fn put_line(&self, frame: &Frame<'_>, answer: Answer<'_>, line: &mut Vec<u8>) {
         let (written, behind) = self.output[..usize::from(frame.lent)].split_at(answer.written());
         let spoiled = behind.iter().fold(0, |changed, octet| changed | (octet ^ FILLER)) != 0;
-        Line { answer, state: &self.state, written, spoiled }.put(line);
+        Line { answer, state: &self.state, written, spoiled, place: answer.place() }.put(line);
         if self.places {
-            line::put_place(line, answer.value().map(|value| octets::place(frame.payload, value)));
+            line::put_value_place(line, answer.value().map(|value| octets::place(frame.payload, value)));
         }
         line.push(b'\n');
     }

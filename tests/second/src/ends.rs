@@ -4,6 +4,8 @@
 
 use crate::book::{Book, End, ROWS};
 use crate::drive::Drive;
+use crate::flawed;
+use crate::flaws::BEHIND;
 use crate::frame::{self, Frame};
 use crate::model::{extends, Model};
 use crate::player::{Played, Player};
@@ -199,8 +201,17 @@ impl<'r> Association<'r> {
         self.random.pick(self.ends[end as usize].state().peer.live())
     }
 
-    /// A right value, or none where none is right; rarely one that breaks the rule, often one of indefinite length.
+    /// A right value, or none where none is right; rarely one that breaks the rule or is at fault, often one of
+    /// indefinite length.
     fn value(&mut self, rule: Rule) -> Vec<u8> {
+        match self.random.below(50) {
+            0 => return flawed::value(self.random),
+            1 => {
+                let good = values::value(self.random, rule.kind.max(1));
+                return [&good, BEHIND[self.random.below(BEHIND.len())].octets].concat();
+            }
+            _ => {}
+        }
         let broken = self.random.percent(3);
         if broken != (rule.kind == 0 || rule.optional && self.random.percent(40)) {
             return Vec::new();

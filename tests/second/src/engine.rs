@@ -1,8 +1,9 @@
 //! The six calls: receive, the four requests and forget. A refused call leaves the state as given.
-//! Follows document 01, "Receiving, in order of check" and "Requests, in order of check".
+//! Follows document 01, "Receiving, in order of check" and "Requests, in order of check", with document 02, request Four.
 
 use crate::answer::{Indication, Problem, Refusal};
 use crate::apdu::{self, Apdu, Code, Invoke, Outgoing};
+use crate::fault;
 use crate::octets;
 use crate::state::{Side, State};
 use crate::table::{Operation, Rule, Table};
@@ -50,7 +51,8 @@ pub fn receive<'a>(
     }
     let mut reject = |id, problem| {
         let written = Outgoing::Reject { id, problem }.write(output);
-        Refusal::Rejected { problem, written }
+        let place = fault_place(octets, problem);
+        Refusal::Rejected { problem, written, place }
     };
     match apdu::read(octets) {
         Ok(Apdu::Invoke(invoke)) => {
@@ -63,8 +65,18 @@ pub fn receive<'a>(
             receive_error(&table, state, id, code, value).map_err(|problem| reject(Some(id), problem))
         }
         Ok(Apdu::Reject { id, problem }) => Ok(receive_reject(state, id, problem)),
-        Err(_) if octets.first() == Some(&apdu::REJECT) => Err(Refusal::UnacceptableReject),
+        Err(unreadable) if octets.first() == Some(&apdu::REJECT) => {
+            Err(Refusal::UnacceptableReject { place: fault_place(octets, unreadable.problem) })
+        }
         Err(unreadable) => Err(reject(unreadable.id, unreadable.problem)),
+    }
+}
+
+/// The place of the first fault of received octets, 0 if the problem is another.
+fn fault_place(octets: &[u8], problem: Problem) -> usize {
+    match problem {
+        Problem::BADLY_STRUCTURED_APDU => fault::place(octets, State::LEVELS),
+        _ => 0,
     }
 }
 
@@ -244,17 +256,26 @@ pub fn forget(table: &[u8], state: &mut State, invocation: Invocation) -> Result
     Ok(())
 }
 
-/// How many levels a value to send has, 0 for none; 9, then 10.
+/// How many levels a value to send has, 0 for none; 9, then 21, then 10.
 fn value_levels(value: &[u8], rule: Rule) -> Result<usize, Refusal> {
     let given = (!value.is_empty()).then_some(value);
     let levels = match given {
-        Some(value) => octets::levels(value, State::LEVELS).ok_or(Refusal::MalformedValue)?,
+        Some(value) => element_levels(value)?,
         None => 0,
     };
     if rule.allows(given) {
         Ok(levels)
     } else {
         Err(Refusal::ValueRuleBroken)
+    }
+}
+
+/// How many levels one element filling a value has; 9, then 21.
+fn element_levels(value: &[u8]) -> Result<usize, Refusal> {
+    match octets::split(value, State::LEVELS) {
+        Some((element, [])) => Ok(element.levels),
+        Some((element, _)) => Err(Refusal::OctetsBehindValue { place: element.whole.len() }),
+        None => Err(Refusal::MalformedValue { place: fault::place(value, State::LEVELS) }),
     }
 }
 

@@ -1,9 +1,10 @@
 //! Scripts from a seed: episodes of calls that fit the state reached, with faults, limits and damage among them.
-//! The calls themselves are made in `requests`, `arrivals`, `lookups`, `limits` and `oddities`.
+//! The calls themselves are made in `requests`, `arrivals`, `lookups`, `limits`, `oddities` and `flawed_calls`.
 
 use crate::answer::Answer;
 use crate::days::{self, Logged};
 use crate::drive::{Drive, Step};
+use crate::flawed::Flaw;
 use crate::frame::{self, Frame};
 use crate::model::Model;
 use crate::random::Random;
@@ -17,6 +18,8 @@ pub struct Seen<'a> {
     pub answer: &'a Answer<'a>,
     pub written: &'a [u8],
     pub label: Option<Label>,
+    /// The first fault that the octets were made with.
+    pub flaw: Option<Flaw>,
     /// The state is the one the call before left.
     pub follows: bool,
 }
@@ -31,6 +34,7 @@ pub enum Group {
     MalformedReceived,
     MalformedApdu,
     MalformedValue,
+    OctetsBehindValue,
     WellFormedReceived,
     WellFormedValue,
     MistypedWithId,
@@ -49,6 +53,9 @@ pub struct Generator<'w> {
     /// The table in force unless an invalid one stands in for a few calls.
     pub(crate) model: Model,
     pub(crate) label: Option<Label>,
+    pub(crate) flaw: Option<Flaw>,
+    /// Whether values of requests are mostly at fault.
+    pub(crate) flawed_values: bool,
     /// What the last call wrote.
     pub(crate) written: Vec<u8>,
     /// How many times in a hundred to do a thing wrong.
@@ -58,6 +65,8 @@ pub struct Generator<'w> {
     follows: bool,
     /// Where each list of named cases is gone on with.
     pub(crate) turns: [usize; 3],
+    /// How far the kinds of fault are gone through.
+    pub(crate) flaws: usize,
     watch: Option<&'w mut Watch<'w>>,
     /// The entries of a day, if one is kept.
     pub(crate) day: Option<Vec<Logged>>,
@@ -82,6 +91,9 @@ impl<'w> Generator<'w> {
             drive: Drive::default(),
             model: Model::default(),
             label: None,
+            flaw: None,
+            flawed_values: false,
+            flaws: seed as usize % 1000 * 31,
             written: Vec::new(),
             script: Vec::new(),
             left: calls,
@@ -102,14 +114,16 @@ impl<'w> Generator<'w> {
 
     fn run(mut self) -> Vec<u8> {
         while self.left > 0 {
-            match self.random.below(100) {
+            match self.random.below(138) {
                 0..=6 => self.invalid_table(),
                 7..=9 => self.unsound_state(),
-                10..=32 => self.limit(),
-                33..=69 => self.named_arrival(),
+                10..=34 => self.limit(),
+                35..=69 => self.named_arrival(),
                 70..=88 => self.named_value(),
                 89..=91 => self.lookups(),
-                _ => self.episode(),
+                92..=99 => self.episode(),
+                100..=134 => self.flawed_call(),
+                _ => self.flawed_requests(),
             }
         }
         self.end();
@@ -118,7 +132,7 @@ impl<'w> Generator<'w> {
 
     /// Makes a call, unless the script has all its calls.
     pub(crate) fn call(&mut self, frame: Frame<'_>) {
-        let label = self.label.take();
+        let (label, flaw) = (self.label.take(), self.flaw.take());
         if self.left == 0 {
             return;
         }
@@ -133,7 +147,7 @@ impl<'w> Generator<'w> {
         }
         if let (Some(watch), Some(before)) = (&mut self.watch, before) {
             let (table, written, follows) = (&self.drive.table[..], &self.written[..], self.follows);
-            watch(&Seen { table, before: &before, frame: &frame, answer: &answer, written, label, follows });
+            watch(&Seen { table, before: &before, frame: &frame, answer: &answer, written, label, flaw, follows });
         }
         self.follows = true;
     }
@@ -162,7 +176,7 @@ impl<'w> Generator<'w> {
     /// A few calls that fit the state reached, most of them right, some wrong in one way, some in many.
     fn episode(&mut self) {
         self.set_table_and_state();
-        for _ in 0..self.random.between(6, 26) {
+        for _ in 0..self.random.between(6, 20) {
             self.trouble = [0, 0, 0, 0, 0, 12, 20, 30, 50, 50][self.random.below(10)];
             self.ordinary_call();
         }

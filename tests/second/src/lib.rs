@@ -1,4 +1,4 @@
-//! Remote operations of X.219, X.229 and X.880 as fixed in document 01 and, up to request Three, document 02: the engine
+//! Remote operations of X.219, X.229 and X.880 as fixed in document 01 and, up to request Four, document 02: the engine
 //! of one end of an association (`engine`), a script player (`drive`), a script generator (`generate`) and checks that
 //! run on them.
 
@@ -7,6 +7,7 @@ pub mod apdu;
 pub mod capture;
 pub mod drive;
 pub mod engine;
+pub mod fault;
 pub mod fields;
 pub mod frame;
 pub mod line;
@@ -32,6 +33,9 @@ pub mod examples;
 pub mod extension;
 pub mod faults;
 pub mod first_fault;
+pub mod flawed;
+mod flawed_calls;
+pub mod flaws;
 pub mod forms;
 pub mod generate;
 pub mod indefinite;
@@ -42,6 +46,7 @@ mod lookups;
 pub mod model;
 mod observe;
 mod oddities;
+pub mod placed;
 pub mod player;
 mod process;
 mod programs;

@@ -26,13 +26,14 @@ impl Generator<'_> {
         }
     }
 
-    /// A table with one operation of class 2, one of class 5 and one error, all values of one type and all optional;
+    /// A table with one operation of class 2, one of class 5 and one error, all values of one type, 0 for none, and optional;
     /// a state with one record of the first on each side. Gives id, operation code and error code.
     fn set_plain(&mut self, kind: u8) -> (i32, i32, i32) {
         let code = self.random.number() >> 1;
-        let row = OperationRow { code, class: 2, argument: kind, result: kind, flags: 3 };
-        let silent = OperationRow { code: code + 1, class: 5, argument: kind, result: 0, flags: 1 };
-        let error = ErrorRow { code: self.random.number(), parameter: kind, optional: 1 };
+        let optional = u8::from(kind != 0);
+        let row = OperationRow { code, class: 2, argument: kind, result: kind, flags: 3 * optional };
+        let silent = OperationRow { code: code + 1, class: 5, argument: kind, result: 0, flags: optional };
+        let error = ErrorRow { code: self.random.number(), parameter: kind, optional };
         self.set_model(Model {
             operations: vec![row, silent],
             errors: vec![error],
@@ -86,9 +87,10 @@ impl Generator<'_> {
         self.call(Frame { kind: frame::RECEIVE, lent, payload: &apdu, ..Frame::default() });
     }
 
-    /// Receives a value of the right type in an Invoke, a Result or an Error that is right otherwise.
+    /// Receives a value, mostly of the right type, in an Invoke, a Result or an Error that is right otherwise.
     pub(crate) fn receive_value(&mut self, value: &[u8]) {
-        let (id, code, error) = self.set_plain(type_of(value));
+        let kind = if self.random.percent(8) { 0xC3 } else { type_of(value) };
+        let (id, code, error) = self.set_plain(kind);
         let place = self.place();
         let id = if place == Place::Invoke { free_id(&mut self.random, &self.drive.state.peer) } else { id };
         let framing = self.framing();
@@ -98,9 +100,25 @@ impl Generator<'_> {
 
     /// Sends a value of the right type in a request that is right otherwise.
     pub(crate) fn send_value(&mut self, value: &[u8]) {
-        let plain = self.set_plain(type_of(value));
+        self.send_value_as(type_of(value), false, value);
+    }
+
+    /// Sends a value in a request that is right otherwise and is to have one of this type, 0 for none; at times with as
+    /// many own records as there can be.
+    pub(crate) fn send_value_as(&mut self, kind: u8, is_full: bool, value: &[u8]) {
+        let plain = self.set_plain(kind);
         let place = self.place();
+        if is_full {
+            self.fill_own(plain.1);
+        }
         self.send(place, plain, |_, _| value.to_vec());
+    }
+
+    /// As many own records as there can be, all of one operation.
+    fn fill_own(&mut self, code: i32) {
+        let mut state = self.drive.state.clone();
+        fill(&mut self.random, &mut state.own, State::RECORDS, |_| Some(code));
+        self.set_state(&state);
     }
 
     /// Sent octets and levels: one below, at and above the limit, and values that are too large themselves.
@@ -108,9 +126,7 @@ impl Generator<'_> {
         let plain = self.set_plain(0x30);
         let place = self.place();
         if place == Place::Invoke && self.random.percent(15) {
-            let mut state = self.drive.state.clone();
-            fill(&mut self.random, &mut state.own, State::RECORDS, |_| Some(plain.1));
-            self.set_state(&state);
+            self.fill_own(plain.1);
         }
         let around_levels = if place == Place::Result { 2 } else { 1 };
         let forms = self.forms();

@@ -1,5 +1,5 @@
 //! The line of a call, written and read.
-//! Follows the drive protocol, "Line".
+//! Follows the drive protocol, "Line", with the field of its stage 4.
 
 use crate::answer::{Answer, Indication, Problem, Refusal};
 use crate::state::{Record, Side, State};
@@ -12,6 +12,8 @@ pub struct Line<'a> {
     pub written: &'a [u8],
     /// Whether a lent octet behind the written ones was changed.
     pub spoiled: bool,
+    /// The place of the first fault of the octets that were given.
+    pub place: usize,
 }
 
 /// What a line that is read refers to.
@@ -47,19 +49,22 @@ impl<'a> Line<'a> {
         if self.spoiled {
             put(line, " spoiled");
         }
+        put(line, &format!(" place {}", self.place));
     }
 
     /// Takes a line apart; none unless it is exactly what the protocol writes.
     pub fn read(line: &str, room: &'a mut Room) -> Option<Line<'a>> {
         let (answer, rest) = line.split_once(" own ")?;
         let (own, rest) = rest.split_once(" peer ")?;
-        let (peer, out) = rest.split_once(" out ")?;
+        let (peer, rest) = rest.split_once(" out ")?;
+        let (out, place) = rest.split_once(" place ")?;
+        let place = place.parse().ok()?;
         let spoiled = out.ends_with(" spoiled");
         let out = out.strip_suffix(" spoiled").unwrap_or(out);
         room.written = if out == "-" { Vec::new() } else { read_octets(out)? };
         room.state = State { own: read_side(own)?, peer: read_side(peer)? };
-        let answer = read_answer(answer, room.written.len(), &mut room.value)?;
-        let read = Line { answer, state: &room.state, written: &room.written, spoiled };
+        let answer = read_answer(answer, (room.written.len(), place), &mut room.value)?;
+        let read = Line { answer, state: &room.state, written: &room.written, spoiled, place };
         let mut again = Vec::with_capacity(line.len());
         read.put(&mut again);
         (again == line.as_bytes()).then_some(read)
@@ -118,7 +123,7 @@ fn put_indication(line: &mut Vec<u8>, indication: Indication<'_>) {
 }
 
 /// Appends the place of a value and the place behind it.
-pub fn put_place(line: &mut Vec<u8>, place: Option<(usize, usize)>) {
+pub fn put_value_place(line: &mut Vec<u8>, place: Option<(usize, usize)>) {
     match place {
         Some((at, end)) => put(line, &format!(" value {at} {end}")),
         None => put(line, " value none"),
@@ -181,15 +186,15 @@ fn put_hex(line: &mut Vec<u8>, octets: &[u8]) {
     line.extend(octets.iter().flat_map(|octet| [octet >> 4, octet & 15].map(|digit| DIGITS[usize::from(digit)])));
 }
 
-/// The answer of a call that wrote so many octets; the octets of its value go into `room`.
-fn read_answer<'a>(text: &str, written: usize, room: &'a mut Vec<u8>) -> Option<Answer<'a>> {
+/// The answer of a call that wrote so many octets and showed this place; the octets of its value go into `room`.
+fn read_answer<'a>(text: &str, (written, place): (usize, usize), room: &'a mut Vec<u8>) -> Option<Answer<'a>> {
     let words: Vec<&str> = text.split(' ').collect();
     Some(match words[..] {
         ["sent"] => Answer::Sent { written },
         ["forgotten"] => Answer::Forgotten,
-        ["refused", number] => Answer::Refused(Refusal::plain(number.parse().ok()?)?),
+        ["refused", number] => Answer::Refused(Refusal::plain(number.parse().ok()?, place)?),
         ["refused", "18", kind, number] => {
-            Answer::Refused(Refusal::Rejected { problem: read_problem(kind, number)?, written })
+            Answer::Refused(Refusal::Rejected { problem: read_problem(kind, number)?, written, place })
         }
         _ => Answer::Indicated(read_indication(&words, room)?),
     })

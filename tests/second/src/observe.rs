@@ -20,6 +20,7 @@ pub fn expects(group: Group, seen: &Seen<'_>) -> bool {
         Group::UnsoundState => number == 19,
         Group::MalformedReceived | Group::MalformedApdu => problem == Some(Problem::BADLY_STRUCTURED_APDU),
         Group::MalformedValue => number == 9,
+        Group::OctetsBehindValue => number == 21,
         Group::WellFormedReceived => !matches!(number, 1 | 2 | 19) && problem != Some(Problem::BADLY_STRUCTURED_APDU),
         Group::WellFormedValue => matches!(number, 0 | 10),
         Group::MistypedWithId => problem == Some(Problem::MISTYPED_APDU) && seen.written[2] == 0x02,
@@ -31,7 +32,8 @@ pub fn expects(group: Group, seen: &Seen<'_>) -> bool {
     }
 }
 
-fn refusal(answer: &Answer<'_>) -> u8 {
+/// The number of a refusal, 0 if the call was accepted.
+pub fn refusal(answer: &Answer<'_>) -> u8 {
     match answer {
         Answer::Refused(refusal) => refusal.number(),
         _ => 0,

@@ -105,7 +105,7 @@ fn length(octets: &[u8]) -> Option<(Length, &[u8])> {
 #[inline(always)]
 pub fn split(octets: &[u8], most: usize) -> Option<(Element<'_>, &[u8])> {
     let Header { identifier, length, behind } = header(octets)?;
-    if most == 0 || matches!(identifier, 0x00 | 0x10 | 0x11 | 0x21 | 0x22 | 0x25 | 0x26 | 0x2A) {
+    if most == 0 || is_refused(identifier) {
         return None;
     }
     let (levels, rest) = match length {
@@ -156,8 +156,13 @@ pub fn levels(octets: &[u8], most: usize) -> Option<usize> {
     }
 }
 
+/// Whether no element may have this first identifier octet.
+pub fn is_refused(identifier: u8) -> bool {
+    matches!(identifier, 0x00 | 0x10 | 0x11 | 0x21 | 0x22 | 0x25 | 0x26 | 0x2A)
+}
+
 /// Whether contents are right for a primitive element with this identifier.
-fn is_right(identifier: u8, contents: &[u8]) -> bool {
+pub fn is_right(identifier: u8, contents: &[u8]) -> bool {
     match identifier {
         0x01 => contents.len() == 1,
         0x02 | 0x0A => is_shortest(contents),

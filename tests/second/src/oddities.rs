@@ -15,6 +15,7 @@ pub type List = (Group, &'static [Named]);
 pub const ARRIVALS: &[List] = &[
     (Group::MalformedReceived, cases::MALFORMED),
     (Group::MalformedReceived, indefinite::MALFORMED),
+    (Group::MalformedReceived, indefinite::BEHIND),
     (Group::WellFormedReceived, cases::WELL_FORMED),
     (Group::WellFormedReceived, indefinite::WELL_FORMED),
     (Group::MalformedApdu, indefinite::MALFORMED_APDUS),
@@ -34,7 +35,8 @@ pub const ARRIVALS: &[List] = &[
 pub const VALUES: &[List] = &[
     (Group::MalformedValue, cases::MALFORMED),
     (Group::MalformedValue, indefinite::MALFORMED),
-    (Group::MalformedValue, indefinite::NOT_ONE),
+    (Group::OctetsBehindValue, indefinite::BEHIND),
+    (Group::OctetsBehindValue, indefinite::NOT_ONE),
     (Group::WellFormedValue, cases::WELL_FORMED),
     (Group::WellFormedValue, indefinite::WELL_FORMED),
 ];
@@ -60,7 +62,7 @@ impl Generator<'_> {
         self.trouble = 20;
         for _ in 0..self.random.between(1, 2) {
             self.label = Some((Group::InvalidTable, name));
-            self.ordinary_call();
+            self.any_call();
         }
         self.trouble = 0;
         match self.random.below(3) {
@@ -98,10 +100,18 @@ impl Generator<'_> {
         self.trouble = 20;
         for _ in 0..self.random.between(1, 2) {
             self.label = Some((Group::UnsoundState, name));
-            self.ordinary_call();
+            self.any_call();
         }
         self.trouble = 0;
         self.set_state(&State::fresh());
+    }
+
+    /// A call, or a request whose value is mostly at fault.
+    fn any_call(&mut self) {
+        match self.random.percent(15) {
+            true => self.with_flawed_values(Self::request),
+            false => self.ordinary_call(),
+        }
     }
 
     fn turn(&mut self, deck: Deck, cases: usize) -> usize {

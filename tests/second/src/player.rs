@@ -1,6 +1,6 @@
 //! One end of an association, played by the engine or by another program, and what each of its lines must keep to.
 
-use crate::answer::{Answer, Indication, Refusal, REFUSALS};
+use crate::answer::{Answer, Indication, Problem, Refusal, REFUSALS};
 use crate::apdu::{self, Apdu, Code, Invoke};
 use crate::drive::Drive;
 use crate::frame::{self, Frame};
@@ -61,7 +61,7 @@ impl Played {
     }
 }
 
-/// What the line breaks of document 01's rules for every call, whatever the call asks.
+/// What the line breaks of the papers' rules for every call, whatever the call asks.
 fn broken_rule(frame: &Frame<'_>, before: &State, line: &Line<'_>) -> Option<&'static str> {
     let rules = [
         (answers(frame.kind, &line.answer), "the call has no such answer"),
@@ -69,6 +69,8 @@ fn broken_rule(frame: &Frame<'_>, before: &State, line: &Line<'_>) -> Option<&'s
         (wrote(frame.kind, line), "other octets were written than the answer says"),
         (line.written.len() <= usize::from(frame.lent), "more octets were written than lent"),
         (!line.spoiled, "an octet behind the written ones was changed"),
+        (line.place == 0 || has_place(&line.answer), "the answer has no place"),
+        (line.place == 0 || line.place < frame.payload.len(), "the place is not in the given octets"),
         (line.answer.is_accepted() || line.state == before, "a refused call changed the records"),
         (line.state.is_sound(), "the records are not sound"),
     ];
@@ -82,6 +84,15 @@ fn answers(kind: u8, answer: &Answer<'_>) -> bool {
         Answer::Sent { .. } => (frame::INVOKE..=frame::REJECT).contains(&kind),
         Answer::Forgotten => kind == frame::FORGET,
         Answer::Refused(refusal) => REFUSALS[usize::from(kind - frame::RECEIVE)].1.contains(&refusal.number()),
+    }
+}
+
+/// Whether the answer is one that names the place of a fault: general 2, 9, 17 or 21.
+fn has_place(answer: &Answer<'_>) -> bool {
+    match answer {
+        Answer::Refused(Refusal::Rejected { problem, .. }) => *problem == Problem::BADLY_STRUCTURED_APDU,
+        Answer::Refused(refusal) => matches!(refusal.number(), 9 | 17 | 21),
+        _ => false,
     }
 }
 

@@ -108,11 +108,11 @@ impl<'t> End<'t> {
     fn received<'a>(&mut self, octets: &'a [u8]) -> Result<Step<'a>, How> {
         match engine::receive(self.table, &mut self.state, octets, &mut self.output) {
             Ok(indication) => Ok(Step::Indicated(indication)),
-            Err(Refusal::Rejected { problem, written }) => {
+            Err(Refusal::Rejected { problem, written, .. }) => {
                 self.awaited = written;
                 Ok(Step::Rejected(problem))
             }
-            Err(Refusal::UnacceptableReject) => Ok(Step::PassedOver),
+            Err(Refusal::UnacceptableReject { .. }) => Ok(Step::PassedOver),
             Err(refusal) => Err(How::Refused("receive", refusal.number())),
         }
     }

@@ -3,6 +3,7 @@
 use crate::answer::Problem;
 use crate::apdu::Outgoing;
 use crate::codes;
+use crate::flawed;
 use crate::frame::{self, Frame};
 use crate::generate::{free_id, live, side, Generator};
 use crate::model::OperationRow;
@@ -24,6 +25,15 @@ impl Generator<'_> {
             39..=46 if peers || self.random.percent(30) => self.reject(),
             47..=54 => self.forget(),
             _ => self.receive(),
+        }
+    }
+
+    /// A request with a value, of any of the three kinds.
+    pub(crate) fn request(&mut self) {
+        match self.random.below(10) {
+            0..=4 => self.invoke(),
+            5..=7 => self.result(),
+            _ => self.error(),
         }
     }
 
@@ -165,6 +175,9 @@ impl Generator<'_> {
     /// A value for a rule, empty for none; wrong in one of many ways if that is to go wrong.
     pub(crate) fn value(&mut self, rule: Rule) -> Vec<u8> {
         let kind = rule.kind;
+        if self.flawed_values && self.random.percent(85) {
+            return flawed::value(&mut self.random);
+        }
         if !(self.fault() || self.trouble > 0 && self.random.percent(12)) {
             let none = kind == 0 || rule.optional && self.random.percent(30);
             return if none { Vec::new() } else { values::value(&mut self.random, kind) };

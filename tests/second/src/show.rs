@@ -1,6 +1,7 @@
 //! A table, a state and a frame decoded for a reader.
 
 use crate::capture::{Kind, Reader};
+use crate::fault;
 use crate::frame::{self, Frame};
 use crate::octets::{self, Header, Length, CLOSING};
 use crate::replay::End;
@@ -69,6 +70,9 @@ pub fn frame(frame: &Frame<'_>) -> String {
     };
     let mut text = format!("{what}, {lent} octets lent, {} given\n", payload.len());
     elements(&mut text, payload, 1);
+    if !payload.is_empty() && octets::levels(payload, State::LEVELS).is_none() {
+        text += &format!("first fault at {}\n", fault::place(payload, State::LEVELS));
+    }
     text
 }
 

@@ -25,7 +25,7 @@ const INNER: [&[u8]; 16] = [
 ];
 
 /// Appends identifier, length and contents; `form` is how many long-form octets there are at least.
-fn put_element(octets: &mut Vec<u8>, identifier: &[u8], contents: &[u8], form: usize) {
+pub(crate) fn put_element(octets: &mut Vec<u8>, identifier: &[u8], contents: &[u8], form: usize) {
     let mut header = [0; 6];
     let mut writer = Writer::new(&mut header);
     let (&last, before) = identifier.split_last().expect("an identifier has an octet");
@@ -37,7 +37,7 @@ fn put_element(octets: &mut Vec<u8>, identifier: &[u8], contents: &[u8], form: u
 }
 
 /// Appends an element of indefinite length.
-fn put_indefinite(octets: &mut Vec<u8>, identifier: &[u8], contents: &[u8]) {
+pub(crate) fn put_indefinite(octets: &mut Vec<u8>, identifier: &[u8], contents: &[u8]) {
     octets.extend(identifier);
     octets.push(0x80);
     octets.extend(contents);

@@ -87,7 +87,7 @@ pub fn play(table: &[u8], state: &State, call: &str) -> String {
     let line = String::from_utf8(line).unwrap().trim_end().to_string();
     if line.starts_with("refused ") {
         assert_eq!(&drive.state, state, "{call} was refused and changed the records");
-        assert_eq!(line.starts_with("refused 18 "), !line.ends_with(" out -"), "{call}");
+        assert_eq!(line.starts_with("refused 18 "), !line.contains(" out - "), "{call}");
     }
     line
 }
@@ -98,6 +98,6 @@ pub fn check(table: &[u8], cases: &[Case]) {
         let line = play(table, &state(own, peer), call);
         let whole = line.strip_prefix(answer).is_some_and(|rest| rest.is_empty() || rest.starts_with(' '));
         assert!(whole, "{call} with own {own:?} peer {peer:?}\n  wanted {answer}\n  was    {line}");
-        assert!(!line.ends_with("spoiled"), "{call}: {line}");
+        assert!(!line.contains("spoiled"), "{call}: {line}");
     }
 }

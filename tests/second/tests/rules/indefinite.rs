@@ -182,11 +182,12 @@ fn received_octets_end_with_closing_ones() {
 }
 
 #[test]
-fn wrong_closing_octets_are_9_general_2_and_17() {
-    for value in ["30 80", "30 80 00", "30 80 00 01", "30 80 00 00 00 00", "30 02 00 00", "04 80 00 00"] {
-        for request in ["invoke 9 7", "result 6", "error 6 1"] {
+fn wrong_closing_octets_are_9_21_general_2_and_17() {
+    for request in ["invoke 9 7", "result 6", "error 6 1"] {
+        for value in ["30 80", "30 80 00", "30 80 00 01", "30 02 00 00", "04 80 00 00"] {
             check_calls(&[(&format!("{request} {value}"), "refused 9")]);
         }
+        check_calls(&[(&format!("{request} 30 80 00 00 00 00"), "refused 21")]);
     }
     for octets in ["80 02 01 05", "80 02 01 05 00", "80 02 01 05 00 01", "80 02 01 05 00 00 00 00", "05 02 01 05 00 00"]
     {
@@ -222,7 +223,7 @@ fn contents_and_rest_of_an_element() {
 #[test]
 fn document_01s_table_takes_them_too() {
     let line = play(&hex(T), &state(&[(5, 7)], &[]), "receive A2 80 02 01 05 30 80 02 01 07 02 01 00 00 00 00 00");
-    assert_eq!(line, "result 00000005 00000007 020100 op 00000007 own 0000 peer 0000 out -");
+    assert_eq!(line, "result 00000005 00000007 020100 op 00000007 own 0000 peer 0000 out - place 0");
 }
 
 #[test]

@@ -23,36 +23,53 @@ fn other_lines_are_none() {
         "",
         "sent",
         "sent own 0000 peer 0000 out",
-        "sent own 0000 peer 0000 out ",
-        "sent own 0000 peer 0000 out a",
-        "sent own 0000 peer 0000 out A1",
-        "sent own 0000 peer 0000 out a1 ",
-        "sent own 0000 peer 0000 out - spoilt",
-        "sent own 0000 peer 0000 out - value none",
-        "sent  own 0000 peer 0000 out -",
-        "sent own 0 peer 0000 out -",
-        "sent own 0001 peer 0000 out -",
-        "sent own 0000 00000000:00000000 peer 0000 out -",
-        "sent own 0001 5:7 peer 0000 out -",
-        "sent peer 0000 own 0000 out -",
-        "refused 0 own 0000 peer 0000 out -",
-        "refused 18 own 0000 peer 0000 out -",
-        "refused 20 own 0000 peer 0000 out -",
-        "refused 2 80 02 own 0000 peer 0000 out -",
-        "refused 18 80 03 own 0000 peer 0000 out a4050500800103",
-        "invoke 00000005 none 00000007 own 0000 peer 0000 out -",
-        "invoke 00000005 none 00000007  own 0000 peer 0000 out -",
-        "result 00000005 none 020100 op 00000007 own 0000 peer 0000 out -",
-        "result 00000005 00000007 none op 00000007 own 0000 peer 0000 out -",
-        "result 00000005 00000007 020100 own 0000 peer 0000 out -",
-        "error 00000005 none none op 00000007 own 0000 peer 0000 out -",
-        "reject-u none 81 00 own 0000 peer 0000 out -",
-        "reject-u 00000005 80 00 own 0000 peer 0000 out -",
-        "reject-p 00000005 81 00 own 0000 peer 0000 out -",
-        &format!("forgotten own 0021{places} peer 0000 out -"),
+        "sent own 0000 peer 0000 out  place 0",
+        "sent own 0000 peer 0000 out a place 0",
+        "sent own 0000 peer 0000 out A1 place 0",
+        "sent own 0000 peer 0000 out a1  place 0",
+        "sent own 0000 peer 0000 out - spoilt place 0",
+        "sent  own 0000 peer 0000 out - place 0",
+        "sent own 0 peer 0000 out - place 0",
+        "sent own 0001 peer 0000 out - place 0",
+        "sent own 0000 00000000:00000000 peer 0000 out - place 0",
+        "sent own 0001 5:7 peer 0000 out - place 0",
+        "sent peer 0000 own 0000 out - place 0",
+        "refused 0 own 0000 peer 0000 out - place 0",
+        "refused 18 own 0000 peer 0000 out - place 0",
+        "refused 20 own 0000 peer 0000 out - place 0",
+        "refused 22 own 0000 peer 0000 out - place 0",
+        "refused 2 80 02 own 0000 peer 0000 out - place 0",
+        "refused 18 80 03 own 0000 peer 0000 out a4050500800103 place 0",
+        "invoke 00000005 none 00000007 own 0000 peer 0000 out - place 0",
+        "invoke 00000005 none 00000007  own 0000 peer 0000 out - place 0",
+        "result 00000005 none 020100 op 00000007 own 0000 peer 0000 out - place 0",
+        "result 00000005 00000007 none op 00000007 own 0000 peer 0000 out - place 0",
+        "result 00000005 00000007 020100 own 0000 peer 0000 out - place 0",
+        "error 00000005 none none op 00000007 own 0000 peer 0000 out - place 0",
+        "reject-u none 81 00 own 0000 peer 0000 out - place 0",
+        "reject-u 00000005 80 00 own 0000 peer 0000 out - place 0",
+        "reject-p 00000005 81 00 own 0000 peer 0000 out - place 0",
+        &format!("forgotten own 0021{places} peer 0000 out - place 0"),
     ];
     for line in others {
         assert!(Line::read(line, &mut Room::default()).is_none(), "{line}");
+    }
+}
+
+#[test]
+fn lines_with_another_end_are_none() {
+    let ends =
+        ["", " place", " place ", " place none", " place 00", " place +1", " place -1", " place 0a", " place 5 "];
+    let more = [" place 0 place 0", " place 0 spoiled", " place 0 value none", " value none place 0"];
+    for end in ends.into_iter().chain(more) {
+        let line = format!("sent own 0000 peer 0000 out -{end}");
+        assert!(Line::read(&line, &mut Room::default()).is_none(), "{line}");
+    }
+    for (answer, place) in [("sent", 0), ("refused 9", 5), ("refused 21", 5000), ("refused 10", 7)] {
+        let (line, mut room) = (format!("{answer} own 0000 peer 0000 out - place {place}"), Room::default());
+        let read = Line::read(&line, &mut room).unwrap();
+        let shown = if answer == "refused 10" { 0 } else { place };
+        assert_eq!((read.place, read.answer.place()), (place, shown), "{line}");
     }
 }
 
@@ -125,6 +142,30 @@ fn rules_of_every_call() {
     ] {
         let told = after_invoke(old, new, second).err().unwrap_or_default();
         assert!(told.starts_with(rule), "{new}: {told}");
+    }
+}
+
+#[test]
+fn places_of_every_call() {
+    let [result, refused, at_fault] =
+        ["A2 0B 02 01 05 30 06 02 01 07 02 01 00", "A2 03 02 01 05", "A1 80 02 01 05 00"].map(hex);
+    let receive = |payload, lent| Frame { kind: frame::RECEIVE, lent, payload, ..Frame::default() };
+    let forget = Frame { kind: frame::FORGET, id: 6, ..Frame::default() };
+    let (none, outside) = ("the answer has no place", "the place is not in the given octets");
+    for (old, new, second, rule) in [
+        ("20103 place 0", "20103 place 2", forget, none),
+        ("peer 0000 out - place 0", "peer 0000 out - place 1", receive(&result, 11), none),
+        ("peer 0000 out - place 0", "peer 0000 out - place 4", receive(&refused, 7), none),
+        ("peer 0000 out - place 0", "peer 0000 out - place 1", forget, none),
+        ("820102 place 0", "820102 place 4", receive(&refused, 11), none),
+        ("800102 place 5", "800102 place 6", receive(&at_fault, 11), outside),
+        ("800102 place 5", "800102 place 60", receive(&at_fault, 11), outside),
+    ] {
+        let told = after_invoke(old, new, second).err().unwrap_or_default();
+        assert!(told.starts_with(rule), "{new}: {told}");
+    }
+    for place in ["place 0", "place 4", "place 5"] {
+        assert_eq!(after_invoke("place 5", place, receive(&at_fault, 11)), Ok(()));
     }
 }
 

@@ -21,7 +21,7 @@ fn received(octets: &[u8]) -> String {
 
 #[test]
 fn named_elements() {
-    for (name, octets) in [cases::MALFORMED, indefinite::MALFORMED, indefinite::NOT_ONE].concat() {
+    for (name, octets) in [cases::MALFORMED, indefinite::MALFORMED, indefinite::BEHIND, indefinite::NOT_ONE].concat() {
         assert_eq!(levels(octets, 16), None, "{name}");
     }
     for (name, octets) in [cases::WELL_FORMED, indefinite::WELL_FORMED].concat() {

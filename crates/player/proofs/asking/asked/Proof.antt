@@ -25,7 +25,7 @@ returns-3 : tie.Need-returns-3
 returns-3 c =
     let made = c .before .before in let given = made .before .before in let link = given .before in let code = link .before .before in
     let said = code .before .before .before in let g = said .said .given .0 in let read = said .before .before in
-    asks _ _ _ _ _ _ _ _
+    asks _ _ _ _ _ _ _ _ _
     (invoke-request _ _ (read .parse .ensures) (g .0) (g .1 .0) (code .code .given .0 .0) (g .1 .1 .1 .0) (link .peer-link .result) _ _ (is-invoke (link .before)) (link .peer-link .ensures) (given .value-octets .ensures) (read .before .before .before .before .pre))
     (made .invoke .ensures)
 
@@ -33,7 +33,7 @@ returns-4 : tie.Need-returns-4
 returns-4 c =
     let made = c .before .before in let given = made .before .before in let value = given .before in
     let said = value .before .before in let g = said .said2 .given .0 in let read = said .before .before in
-    asks _ _ _ _ _ _ _ _
+    asks _ _ _ _ _ _ _ _ _
     (result-request _ _ (read .parse .ensures) (g .0) (g .1 .0) _ _ _ (cc) (value .body-value .ensures _) (given .value-octets2 .ensures) (read .before .before .before .before .pre))
     (made .result .ensures)
 
@@ -41,12 +41,12 @@ returns-5 : tie.Need-returns-5
 returns-5 c =
     let made = c .before .before in let given = made .before .before in let code = given .before .before in
     let said = code .before .before .before in let g = said .said3 .given .0 in let read = said .before .before in
-    asks _ _ _ _ _ _ _ _ (error-request _ _ (read .parse .ensures) (g .0) (code .code2 .given .0 .0) (g .1 .1 .0) _ _ (cc) (given .value-octets3 .ensures) (read .before .before .before .before .pre)) (made .error .ensures)
+    asks _ _ _ _ _ _ _ _ _ (error-request _ _ (read .parse .ensures) (g .0) (code .code2 .given .0 .0) (g .1 .1 .0) _ _ (cc) (given .value-octets3 .ensures) (read .before .before .before .before .pre)) (made .error .ensures)
 
 returns-6 : tie.Need-returns-6
 returns-6 c =
     let made = c .before .before in let said = made .before .before .before in let g = said .said4 .given .0 in let read = said .before .before in
-    asks _ _ _ _ _ _ _ _ (reject-request _ _ (read .parse .ensures) (g .0) (g .1 .0) _ (cc) (read .before .before .before .before .pre)) (made .reject .ensures)
+    asks _ _ _ _ _ _ _ _ _ (reject-request _ _ (read .parse .ensures) (g .0) (g .1 .0) _ (cc) (read .before .before .before .before .pre)) (made .reject .ensures)
 
 returns-7 : tie.Need-returns-7
 returns-7 c =
