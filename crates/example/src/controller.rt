@@ -45,8 +45,8 @@ pub(crate) fn receive(state: State, octets: &[u8], out: &mut [u8]) -> Received {
     let written = a.written;
     Received {
         state,
+        place: 0,
         reception,
         written,
-        place: 0,
     }
 }

@@ -63,9 +63,9 @@ pub(crate) fn receive(state: State, octets: &[u8], out: &mut [u8]) -> Received {
                 let written = a.written;
                 return Received {
                     state,
+                    place: 0,
                     reception,
                     written,
-                    place: 0,
                 };
             }
         },

@@ -47,9 +47,9 @@ pub(crate) fn unfit(state: State) -> Requested
 {
     Requested {
         state,
+        place: 0,
         outcome: Outcome::Refused(Refusal::MalformedValue),
         written: 0,
-        place: 0,
     }
 }
 

@@ -3,7 +3,7 @@
 use Prim.Native.Nat.{ℕ, zero, suc, _+_, _-_, _≤_, _<_, _^_}
 use mathlib.Core.Path.{_≡_, refl, sym, ap, _∙_}
 use mathlib.Core.Logic.{⊎-elim}
-use mathlib.Core.Bool.{Bool, true, false, _&&_}
+use mathlib.Core.Bool.{Bool, true, false, _&&_, true≢false}
 use mathlib.Core.List.{List, [], _∷_, _++_}
 use mathlib.Core.Option.{Option, some, none}
 use native.Mathlib.Omega.{arith}
@@ -15,22 +15,25 @@ use Rattle.records.specs.declared.Code.{Code}
 use Rattle.records.specs.Limits.{octets, levels}
 use Rattle.ber.specs.declared.element.Checked.{Checked}
 use Rattle.ber.specs.declared.element.Checked.the-variants.{Good, Wrong}
+use Rattle.ber.specs.declared.element.Finding.{Finding}
+use Rattle.ber.specs.declared.element.Finding.the-variants.{One, More, Fault}
 use Rattle.ber.specs.declared.header.Header.the-variants.{At}
 use Rattle.ber.specs.Header.{oneOf, constructed, headerOf}
 use Rattle.ber.specs.Rule.{contentRule}
-use Rattle.ber.specs.Element.{elementOf, contentsOf, size, fills, wellFormed, elementOctets}
+use Rattle.ber.specs.Element.{elementOf, contentsOf, size, fills, wellFormed, findingIn, isOne, isMore, isFault, elementOctets}
 use Rattle.ber.proofs.ElementBounds.{good-size, fault-size, element-bounds}
 use Rattle.ber.proofs.ElementLaws.{contents-none, contents-cons, contents-fault, well-formed-size, size-well-formed}
 use Rattle.ber.proofs.ElementFacts.{Definite, Indefinite, element-facts}
 use Rattle.ber.proofs.ElementOctets.{element-octets-length, startOf}
 use Rattle.ber.proofs.Locality.{element-append, element-more}
+use Rattle.ber.proofs.FaultLaws.{well-formed-finding}
 use Rattle.apdu.specs.declared.Number.{Number}
 use Rattle.apdu.specs.declared.Number.the-variants.{Of, Absent}
 use Rattle.apdu.specs.Encode.{integerField, linkedField, valueField, bodyField, codedFields, encodeInvoke, encodeResult, encodeError}
 use Rattle.apdu.proofs.FieldLaws.{header-alone, part-alone, octets-well-formed}
 use Rattle.apdu.proofs.FieldRoundTrip.{NumberFits, id-well, linked-well}
 use Rattle.apdu.proofs.RoundTrip.{Free}
-use Rattle.protocol.specs.Check.{valueWell, inApdu, inBody, withinLimits}
+use Rattle.protocol.specs.Check.{valueFinding, valueWell, inApdu, inBody, withinLimits}
 
 drop-all : (v : List ℕ) → drop (length v) v ≡ []
 drop-all [] = refl
@@ -101,6 +104,17 @@ module _ (t : ℕ) (c : List ℕ) (g : Free t) (k : constructed t ≡ true) (h :
       contents-one (suc d) (elementOctets t c) (omega (arith, element-octets-length t c)) (λ n q. written-size (suc d) n q .0) ∙ well d
 
 -- ---- the value's levels are the APDU's
+
+-- what passes 9 and 21 is one well-formed element, or none
+pub passed-well : (v : Option (List ℕ)) → isFault (valueFinding levels v) ≡ false → isMore (valueFinding levels v) ≡ false → valueWell levels v ≡ true
+unfolding valueFinding valueWell
+passed-well none f m = refl
+passed-well (some v) f m = sym (well-formed-finding levels v) ∙ go (findingIn levels v) f m
+  where
+    go : (x : Finding) → isFault x ≡ false → isMore x ≡ false → isOne x ≡ true
+    go One f m = refl
+    go (More at) f m = absurd (true≢false m)
+    go (Fault at) f m = absurd (true≢false f)
 
 value-levels : (d k : ℕ) (v : Option (List ℕ)) → valueWell (d + k) v ≡ true → contentsOf d (valueField v) ≡ valueWell d v
 unfolding valueWell valueField

@@ -146,13 +146,13 @@ pub enum Reception {
     Refused(Refusal),
 }
 
-// What receive answers: the state then, the indication or refusal, how many octets of the output were written, and where the received
-// octets are at fault, for a general problem 2 or a 17; else 0.
+// What receive answers: the state then, where the received octets are at fault (for a general problem 2 or a 17, else 0), the indication or
+// refusal, and how many octets of the output were written.
 pub struct Received {
     pub state: State,
+    pub place: usize,
     pub reception: Reception,
     pub written: usize,
-    pub place: usize,
 }
 
 pub enum Outcome {
@@ -160,11 +160,11 @@ pub enum Outcome {
     Refused(Refusal),
 }
 
-// What a request or forget answers: the state then, how many octets of the output were written, and where the value is at fault, for a 9
-// or a 21; else 0.
+// What a request or forget answers: the state then, where the value is at fault (for a 9 or a 21, else 0), and how many octets of the output
+// were written.
 pub struct Requested {
     pub state: State,
+    pub place: usize,
     pub outcome: Outcome,
     pub written: usize,
-    pub place: usize,
 }

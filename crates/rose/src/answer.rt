@@ -29,9 +29,9 @@ pub(crate) fn refused(state: State, why: u8, place: usize) -> Requested
 {
     Requested {
         state,
+        place: named(why, place),
         outcome: Outcome::Refused(refusal(why)),
         written: 0,
-        place: named(why, place),
     }
 }
 
@@ -40,9 +40,9 @@ pub(crate) fn accepted(state: State, written: usize) -> Requested
 {
     Requested {
         state,
+        place: 0,
         outcome: Outcome::Accepted,
         written,
-        place: 0,
     }
 }
 
@@ -51,9 +51,9 @@ pub(crate) fn unheard(state: State, why: u8) -> Received
 {
     Received {
         state,
+        place: 0,
         reception: Reception::Refused(refusal(why)),
         written: 0,
-        place: 0,
     }
 }
 

@@ -89,9 +89,9 @@ pub fn receive(state: State, table: &[u8], apdu: &[u8], out: &mut [u8]) -> Recei
             let written = write_answer(out, reception);
             Received {
                 state: changed(state, change),
+                place: fault_in(parsed),
                 reception,
                 written,
-                place: fault_in(parsed),
             }
         }
     }
