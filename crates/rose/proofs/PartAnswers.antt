@@ -28,7 +28,6 @@ use Rattle.apdu.specs.declared.CodeField.{CodeField}
 use Rattle.apdu.specs.declared.CodeField.the-variants.{Local, Other}
 use Rattle.protocol.specs.Check.{codeFound, codeIn, isLinked, linkedTo, valueFinding, valueWell}
 use Rattle.protocol.specs.Receive.{fieldCode, isOperation, isError}
-use Rattle.rose.specs.declared.request.Weighed.{Weighed}
 use Rattle.rose.specs.Steps.{isFound, isLocal, foundBy, StandsAt, Weighs}
 use Rattle.rose.proofs.UsableAnswers.{found-member}
 
@@ -65,32 +64,31 @@ unfolding valueWell valueFinding
 well-finding none h = refl
 well-finding (some v) h = sym (finding-one levels v h)
 
+pub no-octets : 0 ≡ place levels []
+no-octets = omega (arith, place-within levels [])
+
+-- the place of a value, empty for none, is that of its octets
+value-place : (v : List ℕ) → placeIn (valueFinding levels (nonEmpty v)) ≡ place levels v
+unfolding valueFinding nonEmpty
+value-place [] = no-octets
+value-place (b ∷ v) = refl
+
 module _ (down most : ℕ) (o : most ≡ levels - down) (v : List ℕ) (b : Bool) (q : b ≡ valueWell most (nonEmpty v)) where
   fits-down : {t : Bool} → b ≡ t → t ≡ valueWell (levels - down) (nonEmpty v)
   fits-down e = sym e ∙ q ∙ ap (λ (d : ℕ). valueWell d (nonEmpty v)) o
 
-  pub weighs-well : b ≡ true → Weighs down v (record { fits = true; finding = One })
-  weighs-well e = record { fits = fits-down e; finding = well-finding (nonEmpty v) (well-at-all down (nonEmpty v) (sym (fits-down e))) }
+  pub weighs-well : b ≡ true → Weighs down v (record { fits = true; finding = One; place = 0 })
+  weighs-well e =
+      let one = well-finding (nonEmpty v) (well-at-all down (nonEmpty v) (sym (fits-down e))) in
+      record { fits = fits-down e; finding = one; place = ap placeIn one ∙ value-place v }
 
-  pub weighs-not : b ≡ false → (f : Finding) → f ≡ findingIn levels v → Weighs down v (record { fits = false; finding = f })
+  pub weighs-not : b ≡ false → (f : Finding) → f ≡ findingIn levels v → (p : ℕ) → p ≡ placeIn f → Weighs down v (record { fits = false; finding = f; place = p })
   unfolding valueWell valueFinding nonEmpty
-  weighs-not e f w = record { fits = fits-down e; finding = w ∙ go v (fits-down e) }
+  weighs-not e f w p q = record { fits = fits-down e; finding = w ∙ go v (fits-down e); place = q ∙ ap placeIn w }
     where
       go : (v : List ℕ) → false ≡ valueWell (levels - down) (nonEmpty v) → findingIn levels v ≡ valueFinding levels (nonEmpty v)
       go [] h = absurd (false≢true h)
       go (b ∷ v) h = refl
-
-pub no-octets : 0 ≡ place levels []
-no-octets = omega (arith, place-within levels [])
-
--- the place that a value's finding has is that of the octets given
-pub weighs-place : (down : ℕ) (v : List ℕ) (w : Weighed) → Weighs down v w → placeIn (w .finding) ≡ place levels v
-unfolding valueFinding nonEmpty
-weighs-place down v w h = ap placeIn (h .finding) ∙ go v
-  where
-    go : (v : List ℕ) → placeIn (valueFinding levels (nonEmpty v)) ≡ place levels v
-    go [] = no-octets
-    go (b ∷ v) = refl
 
 -- ---- a code of another form is none of the table's
 

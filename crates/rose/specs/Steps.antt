@@ -14,6 +14,7 @@ use Rattle.records.specs.declared.Record.{Record}
 use Rattle.records.specs.Limits.{levels}
 use Rattle.records.specs.Records.{sameCode, lookup}
 use Rattle.base.specs.Lists.{nonEmpty}
+use Rattle.ber.specs.Element.{place}
 use Rattle.optable.specs.declared.Part.the-variants.{Operations}
 use Rattle.codes.specs.declared.Place.the-variants.{At}
 use Rattle.optable.specs.Validity.{valid}
@@ -169,6 +170,7 @@ invocationIn s (Peer i) = lookup (i .0) (peerRecords s)
 pub record Weighs (down : ℕ) (v : List ℕ) (w : Weighed) : Type 0 where
   pub fits : w .fits ≡ valueWell (levels - down) (nonEmpty v)
   pub finding : w .finding ≡ valueFinding levels (nonEmpty v)
+  pub place : w .place ≡ place levels v
 
 -- ---- answers
 

@@ -122,7 +122,6 @@ pub fn invoke(
     );
     let place = operation_place(table, code);
     let weighed = weigh(value, State::LEVELS - 1);
-    let finding = weighed.finding;
     match check_invoke(
         opened,
         state.own.count,
@@ -136,7 +135,7 @@ pub fn invoke(
         weighed,
         out.len(),
     ) {
-        Verdict::Fails(why) => refused(state, why, finding.place()),
+        Verdict::Fails(why) => refused(state, why, weighed.place),
         Verdict::Passes => {
             let written = write_invoke(out, id, linked, code, value);
             let next = with_own(state, operation_in(table, place).class(), id, code);
@@ -161,9 +160,8 @@ pub fn result(state: State, table: &[u8], id: PeerId, value: &[u8], out: &mut [u
         Sought::Peer(id),
     );
     let weighed = weigh(value, State::LEVELS - 2);
-    let finding = weighed.finding;
     match check_result(opened, table, id, value, weighed, out.len()) {
-        Verdict::Fails(why) => refused(state, why, finding.place()),
+        Verdict::Fails(why) => refused(state, why, weighed.place),
         Verdict::Passes => {
             let found = opened.found;
             let written = write_result(out, id, code_found(found), value);
@@ -195,9 +193,8 @@ pub fn error(
         Sought::Peer(id),
     );
     let weighed = weigh(value, State::LEVELS - 1);
-    let finding = weighed.finding;
     match check_error(opened, table, id, code, value, weighed, out.len()) {
-        Verdict::Fails(why) => refused(state, why, finding.place()),
+        Verdict::Fails(why) => refused(state, why, weighed.place),
         Verdict::Passes => {
             let written = write_error(out, id, code, value);
             accepted(state.retire_peer(id), written)

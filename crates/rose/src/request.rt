@@ -57,10 +57,11 @@ fn is_well(value: &[u8], levels: usize) -> bool
     well_formed(value, levels)
 }
 
-// What the checks of a request ask of its value: whether it is well-formed as many levels down as it stands, and what it is at the full levels.
+// What a request asks of its value: whether it is well-formed as many levels down as it stands, what it is at the full levels, and where it is at fault.
 pub(crate) struct Weighed {
     pub fits: bool,
     pub finding: Finding,
+    pub place: usize,
 }
 
 // A value is walked again, at the full levels, only where it is not well-formed as many levels down as it stands.
@@ -71,11 +72,14 @@ pub(crate) fn weigh(value: &[u8], most: usize) -> Weighed
         return Weighed {
             fits: true,
             finding: Finding::One,
+            place: 0,
         };
     }
+    let finding = finding_in(value, State::LEVELS);
     Weighed {
         fits: false,
-        finding: finding_in(value, State::LEVELS),
+        finding,
+        place: finding.place(),
     }
 }
 

@@ -1,5 +1,5 @@
 -- The refusal of the first check that fails, or the APDU and the new state.
-use mathlib.Core.Path.{_≡_, refl, _∙_}
+use mathlib.Core.Path.{_≡_, refl}
 use lib.ListN.{length}
 use Rattle.protocol.specs.Call.{Call, error}
 use Rattle.protocol.specs.Check.{inApdu}
@@ -8,7 +8,6 @@ use Rattle.protocol.proofs.Facts.{error-facts}
 use Rattle.rose.proofs.Calls.{request-refused, request-accepted, all-pass, sent-fits}
 use Rattle.rose.specs.declared.verdict.Verdict.the-variants.{Passes}
 use Rattle.rose.specs.Steps.{Judged}
-use Rattle.rose.proofs.PartAnswers.{weighs-place}
 use borrow.Author.Needs.{needs}
 use Rattle.rose.proofs.error.Statement.{statement}
 use Rattle.rose.proofs.error.Tie as tie
@@ -24,9 +23,9 @@ verdict c = c .check-error .ensures (start c .args .t1) 0 (c .before .before .op
 
 returns : tie.Need-returns
 returns c =
-    let place = c .before in let why = place .before .before in let checked = why .before .before in let b = start checked .args in
+    let why = c .before .before in let checked = why .before .before in let b = start checked .args in
     request-refused (b .table .now) (b .t1) (call (start checked)) _ (verdict checked) (why .why .given .0 .0) (cc) (b .value .now) (b .out .now) _
-    (place .place .ensures ∙ weighs-place inApdu _ _ (checked .before .weigh .ensures inApdu refl)) _ (c .refused .ensures)
+    (checked .before .weigh .ensures inApdu refl .place) _ (c .refused .ensures)
 
 passes : (a : tie.After-enum-told) → a .before .before .check-error .result ≡ Passes
 passes a = cc
@@ -44,5 +43,5 @@ returns-2 c =
 pub error-spec : {M : Type 1} → statement M
 error-spec =
     tie.close
-    (tie.spec (λ c κs. search needs) (λ c. search needs) (λ c κs. search needs) (λ c κs. search needs) (λ c. search needs) (λ c. search needs) (λ c κs. search needs) (λ c. search needs) (λ c κs. search needs)
+    (tie.spec (λ c κs. search needs) (λ c. search needs) (λ c κs. search needs) (λ c κs. search needs) (λ c. search needs) (λ c κs. search needs) (λ c. search needs) (λ c κs. search needs)
     (λ c κs. search needs) (λ c κs. search needs) returns (λ c. search needs) returns-2)

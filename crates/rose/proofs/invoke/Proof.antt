@@ -14,7 +14,6 @@ use Rattle.rose.proofs.Calls.{request-refused, request-accepted, all-pa
 use Rattle.rose.specs.declared.verdict.Verdict.the-variants.{Passes}
 use Rattle.rose.specs.Steps.{Judged}
 use Rattle.rose.proofs.UsableAnswers.{opens-as}
-use Rattle.rose.proofs.PartAnswers.{weighs-place}
 use borrow.Author.Needs.{needs}
 use Rattle.rose.proofs.invoke.Statement.{statement}
 use Rattle.rose.proofs.invoke.Tie as tie
@@ -40,9 +39,9 @@ verdict c =
 
 returns : tie.Need-returns
 returns c =
-    let place = c .before in let why = place .before .before in let checked = why .before .before in let b = start checked .args in
+    let why = c .before .before in let checked = why .before .before in let b = start checked .args in
     request-refused (b .table .now) (b .t1) (call (start checked)) _ (verdict checked) (why .why .given .0 .0) (cc) (b .value .now) (b .out .now) _
-    (place .place .ensures ∙ weighs-place inApdu _ _ (weighed checked .weigh .ensures inApdu refl)) _ (c .refused .ensures)
+    (weighed checked .weigh .ensures inApdu refl .place) _ (c .refused .ensures)
 
 passes : (a : tie.After-enum-told) → a .before .before .check-invoke .result ≡ Passes
 passes a = cc
@@ -63,6 +62,6 @@ pub invoke-spec : {M : Type 1} → statement M
 invoke-spec =
     tie.close
     (tie.spec (λ c κs. search needs) (λ c κs. search needs) (λ c κs. search needs) (λ c κs. search needs) (λ c. search needs) (λ c κs. search needs)
-    (λ c κs. search needs) (λ c. search needs) (λ c. search needs)
+    (λ c κs. search needs) (λ c. search needs)
     (λ c κs. search needs) (λ c. search needs) (λ c κs. search needs) (λ c κs. search needs) (λ c κs. search needs) (λ c κs. search needs)
     (λ c κs. search needs) returns (λ c. search needs) returns-2)

@@ -10,7 +10,6 @@ use Rattle.apdu.specs.Encode.{encodeResult}
 use Rattle.rose.proofs.Calls.{request-refused, request-accepted, all-pass, sent-fits}
 use Rattle.rose.specs.declared.verdict.Verdict.the-variants.{Passes}
 use Rattle.rose.specs.Steps.{Judged}
-use Rattle.rose.proofs.PartAnswers.{weighs-place}
 use borrow.Author.Needs.{needs}
 use Rattle.rose.proofs.result.Statement.{statement}
 use Rattle.rose.proofs.result.Tie as tie
@@ -26,9 +25,9 @@ verdict c = c .check-result .ensures (start c .args .t1) 0 (c .before .before .o
 
 returns : tie.Need-returns
 returns c =
-    let place = c .before in let why = place .before .before in let checked = why .before .before in let b = start checked .args in
+    let why = c .before .before in let checked = why .before .before in let b = start checked .args in
     request-refused (b .table .now) (b .t1) (call (start checked)) _ (verdict checked) (why .why .given .0 .0) (cc) (b .value .now) (b .out .now) _
-    (place .place .ensures ∙ weighs-place inBody _ _ (checked .before .weigh .ensures inBody refl)) _ (c .refused .ensures)
+    (checked .before .weigh .ensures inBody refl .place) _ (c .refused .ensures)
 
 passes : (a : tie.After-enum-told) → a .before .before .check-result .result ≡ Passes
 passes a = cc
@@ -47,5 +46,5 @@ returns-2 c =
 pub result-spec : {M : Type 1} → statement M
 result-spec =
     tie.close
-    (tie.spec (λ c κs. search needs) (λ c. search needs) (λ c κs. search needs) (λ c κs. search needs) (λ c. search needs) (λ c. search needs) (λ c κs. search needs) (λ c. search needs) (λ c κs. search needs)
+    (tie.spec (λ c κs. search needs) (λ c. search needs) (λ c κs. search needs) (λ c κs. search needs) (λ c. search needs) (λ c κs. search needs) (λ c. search needs) (λ c κs. search needs)
     (λ c κs. search needs) (λ c κs. search needs) (λ c κs. search needs) returns (λ c. search needs) returns-2)

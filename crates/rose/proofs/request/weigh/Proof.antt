@@ -8,7 +8,9 @@ returns : tie.Need-returns
 returns c = λ down e. weighs-well down _ e _ _ (c .before .is-well .ensures) (c .if1 .taken)
 
 returns-2 : tie.Need-returns-2
-returns-2 c = λ down e. let if1 = c .before in weighs-not down _ e _ _ (if1 .before .is-well .ensures) (if1 .if1 .left) _ (c .finding-in .ensures)
+returns-2 c = λ down e.
+    let finding = c .before in let if1 = finding .before in
+    weighs-not down _ e _ _ (if1 .before .is-well .ensures) (if1 .if1 .left) _ (finding .finding-in .ensures) _ (c .place .ensures)
 
 pub weigh-spec : {M : Type 1} → statement M
-weigh-spec = tie.close (tie.spec (λ c κs. search needs) returns (λ c κs. search needs) returns-2)
+weigh-spec = tie.close (tie.spec (λ c κs. search needs) returns (λ c κs. search needs) (λ c κs. search needs) returns-2)
