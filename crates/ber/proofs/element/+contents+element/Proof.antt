@@ -1,5 +1,5 @@
 -- `element` and `contents` call each other. Both measures are the octets left: `contents` hands on those behind an identifier, `element` those behind a length.
-use mathlib.Core.Path.{_≡_, sym, _∙_, ap}
+use mathlib.Core.Path.{sym, _∙_, ap}
 use native.Mathlib.Omega.{arith}
 use borrow.Author.Needs.{needs}
 use lib.ListN.{length, take, drop, length-take, length-drop}
