@@ -30,7 +30,7 @@ bodyValue (some b) = some (b .value)
 
 -- ids are 32-bit patterns; a value is a part of the lent octets; no value and no linked id are none
 pub data Apdu : Type 0 where
-  -- not well formed: general 2
+  -- not well formed: general 2; the place of the first fault
   badlyStructured : ℕ → Apdu
   -- first octet not A1 to A4: general 0
   unrecognized : Apdu

@@ -52,6 +52,7 @@ pub enum Body {
 
 // What a received APDU says, with places in the lent octets and each id by its side.
 pub enum Parsed {
+    // Not well formed, with the first fault there.
     BadlyStructured {
         at: usize,
     },

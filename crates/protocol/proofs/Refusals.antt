@@ -1,6 +1,7 @@
 -- Refusals: each has one of the papers' numbers, and one that is no 18 has nothing but its number.
 use Prim.Native.Nat.{ℕ, _≤_}
 use mathlib.Core.Path.{_≡_, refl}
+use mathlib.Core.Logic.{_⊎_, inl, inr}
 use mathlib.Core.List.{List, [], _∷_}
 use lib.Dec.{lit≤}
 use types.Run.{OneOf}
@@ -13,28 +14,28 @@ use Rattle.protocol.specs.Call.{plain, refusalNumber}
 use Rattle.protocol.specs.Reading.{readRefusal}
 
 -- validates `readRefusal`: a refusal carries one of the papers' numbers
-pub numbered : (why : Reason) → (1 ≤ refusalNumber (readRefusal why)) × (refusalNumber (readRefusal why) ≤ 21)
+pub numbered : (why : Reason) → (1 ≤ refusalNumber (readRefusal why)) × ((refusalNumber (readRefusal why) ≤ 19) ⊎ (refusalNumber (readRefusal why) ≡ 21))
 unfolding readRefusal
-numbered InvalidTable = (lit≤ tt, lit≤ tt)
-numbered ShortOutput = (lit≤ tt, lit≤ tt)
-numbered LongInput = (lit≤ tt, lit≤ tt)
-numbered UnknownOperation = (lit≤ tt, lit≤ tt)
-numbered IdInUse = (lit≤ tt, lit≤ tt)
-numbered SynchronousLive = (lit≤ tt, lit≤ tt)
-numbered UnknownLinkedId = (lit≤ tt, lit≤ tt)
-numbered NotAChild = (lit≤ tt, lit≤ tt)
-numbered MalformedValue = (lit≤ tt, lit≤ tt)
-numbered MistypedValue = (lit≤ tt, lit≤ tt)
-numbered NoRecord = (lit≤ tt, lit≤ tt)
-numbered WrongClass = (lit≤ tt, lit≤ tt)
-numbered UnlistedError = (lit≤ tt, lit≤ tt)
-numbered RecordsFull = (lit≤ tt, lit≤ tt)
-numbered LargeApdu = (lit≤ tt, lit≤ tt)
-numbered WrongProblem = (lit≤ tt, lit≤ tt)
-numbered UnacceptableReject = (lit≤ tt, lit≤ tt)
-numbered (Rejected i k p) = (lit≤ tt, lit≤ tt)
-numbered UnsoundState = (lit≤ tt, lit≤ tt)
-numbered TrailingOctets = (lit≤ tt, lit≤ tt)
+numbered InvalidTable = (lit≤ tt, inl (lit≤ tt))
+numbered ShortOutput = (lit≤ tt, inl (lit≤ tt))
+numbered LongInput = (lit≤ tt, inl (lit≤ tt))
+numbered UnknownOperation = (lit≤ tt, inl (lit≤ tt))
+numbered IdInUse = (lit≤ tt, inl (lit≤ tt))
+numbered SynchronousLive = (lit≤ tt, inl (lit≤ tt))
+numbered UnknownLinkedId = (lit≤ tt, inl (lit≤ tt))
+numbered NotAChild = (lit≤ tt, inl (lit≤ tt))
+numbered MalformedValue = (lit≤ tt, inl (lit≤ tt))
+numbered MistypedValue = (lit≤ tt, inl (lit≤ tt))
+numbered NoRecord = (lit≤ tt, inl (lit≤ tt))
+numbered WrongClass = (lit≤ tt, inl (lit≤ tt))
+numbered UnlistedError = (lit≤ tt, inl (lit≤ tt))
+numbered RecordsFull = (lit≤ tt, inl (lit≤ tt))
+numbered LargeApdu = (lit≤ tt, inl (lit≤ tt))
+numbered WrongProblem = (lit≤ tt, inl (lit≤ tt))
+numbered UnacceptableReject = (lit≤ tt, inl (lit≤ tt))
+numbered (Rejected i k p) = (lit≤ tt, inl (lit≤ tt))
+numbered UnsoundState = (lit≤ tt, inl (lit≤ tt))
+numbered TrailingOctets = (lit≤ tt, inr refl)
 
 -- ---- one that has not the tag of an 18
 
