@@ -28,7 +28,7 @@ use Rattle.apdu.specs.declared.CodeField.{CodeField}
 use Rattle.apdu.specs.declared.CodeField.the-variants.{Local, Other}
 use Rattle.protocol.specs.Check.{codeFound, codeIn, isLinked, linkedTo, valueFinding, valueWell}
 use Rattle.protocol.specs.Receive.{fieldCode, isOperation, isError}
-use Rattle.rose.specs.Steps.{isFound, isLocal, foundBy, StandsAt, Weighs}
+use Rattle.rose.specs.Steps.{isFound, isLocal, foundBy, StandsAt, ValueChecked}
 use Rattle.rose.proofs.UsableAnswers.{found-member}
 
 -- ---- a value, empty for none
@@ -77,14 +77,14 @@ module _ (down most : ℕ) (o : most ≡ levels - down) (v : List ℕ) (b : Bool
   fits-down : {t : Bool} → b ≡ t → t ≡ valueWell (levels - down) (nonEmpty v)
   fits-down e = sym e ∙ q ∙ ap (λ (d : ℕ). valueWell d (nonEmpty v)) o
 
-  pub weighs-well : b ≡ true → Weighs down v (record { fits = true; finding = One; place = 0 })
-  weighs-well e =
+  pub value-fits : b ≡ true → ValueChecked down v (record { fits = true; finding = One; place = 0 })
+  value-fits e =
       let one = well-finding (nonEmpty v) (well-at-all down (nonEmpty v) (sym (fits-down e))) in
       record { fits = fits-down e; finding = one; place = ap placeIn one ∙ value-place v }
 
-  pub weighs-not : b ≡ false → (f : Finding) → f ≡ findingIn levels v → (p : ℕ) → p ≡ placeIn f → Weighs down v (record { fits = false; finding = f; place = p })
+  pub value-does-not : b ≡ false → (f : Finding) → f ≡ findingIn levels v → (p : ℕ) → p ≡ placeIn f → ValueChecked down v (record { fits = false; finding = f; place = p })
   unfolding valueWell valueFinding nonEmpty
-  weighs-not e f w p q = record { fits = fits-down e; finding = w ∙ go v (fits-down e); place = q ∙ ap placeIn w }
+  value-does-not e f w p q = record { fits = fits-down e; finding = w ∙ go v (fits-down e); place = q ∙ ap placeIn w }
     where
       go : (v : List ℕ) → false ≡ valueWell (levels - down) (nonEmpty v) → findingIn levels v ≡ valueFinding levels (nonEmpty v)
       go [] h = absurd (false≢true h)

@@ -46,7 +46,7 @@ use Rattle.rose.specs.declared.usable.Opening.{Opening}
 use Rattle.rose.specs.declared.usable.Sought.{Sought}
 use Rattle.rose.specs.declared.usable.Sought.the-variants.{Own as OwnOne, Peer as PeerOne, Nothing as NoOne}
 use Rattle.rose.specs.declared.arrival.Arrival.{Arrival}
-use Rattle.rose.specs.declared.request.Weighed.{Weighed}
+use Rattle.rose.specs.declared.request.ValueCheck.{ValueCheck}
 use Rattle.rose.specs.declared.change.Change.{Change}
 use Rattle.rose.specs.declared.change.Change.the-variants.{Unchanged, Adds, Retires}
 
@@ -167,7 +167,7 @@ invocationIn s (Peer i) = lookup (i .0) (peerRecords s)
 -- ---- values
 
 -- what is known of a value, empty for none, that stands so many levels down
-pub record Weighs (down : ℕ) (v : List ℕ) (w : Weighed) : Type 0 where
+pub record ValueChecked (down : ℕ) (v : List ℕ) (w : ValueCheck) : Type 0 where
   pub fits : w .fits ≡ valueWell (levels - down) (nonEmpty v)
   pub finding : w .finding ≡ valueFinding levels (nonEmpty v)
   pub place : w .place ≡ place levels v

@@ -44,7 +44,7 @@ use request::check_error;
 use request::check_invoke;
 use request::check_reject;
 use request::check_result;
-use request::weigh;
+use request::check_value;
 use usable::Sought;
 use usable::code_found;
 use usable::opening_of;
@@ -121,7 +121,7 @@ pub fn invoke(
         peer_parent(linked),
     );
     let place = operation_place(table, code);
-    let weighed = weigh(value, State::LEVELS - 1);
+    let checked = check_value(value, State::LEVELS - 1);
     match check_invoke(
         opened,
         state.own.count,
@@ -132,10 +132,10 @@ pub fn invoke(
         code,
         linked,
         value,
-        weighed,
+        checked,
         out.len(),
     ) {
-        Verdict::Fails(why) => refused(state, why, weighed.place),
+        Verdict::Fails(why) => refused(state, why, checked.place),
         Verdict::Passes => {
             let written = write_invoke(out, id, linked, code, value);
             let next = with_own(state, operation_in(table, place).class(), id, code);
@@ -159,9 +159,9 @@ pub fn result(state: State, table: &[u8], id: PeerId, value: &[u8], out: &mut [u
         0,
         Sought::Peer(id),
     );
-    let weighed = weigh(value, State::LEVELS - 2);
-    match check_result(opened, table, id, value, weighed, out.len()) {
-        Verdict::Fails(why) => refused(state, why, weighed.place),
+    let checked = check_value(value, State::LEVELS - 2);
+    match check_result(opened, table, id, value, checked, out.len()) {
+        Verdict::Fails(why) => refused(state, why, checked.place),
         Verdict::Passes => {
             let found = opened.found;
             let written = write_result(out, id, code_found(found), value);
@@ -192,9 +192,9 @@ pub fn error(
         0,
         Sought::Peer(id),
     );
-    let weighed = weigh(value, State::LEVELS - 1);
-    match check_error(opened, table, id, code, value, weighed, out.len()) {
-        Verdict::Fails(why) => refused(state, why, weighed.place),
+    let checked = check_value(value, State::LEVELS - 1);
+    match check_error(opened, table, id, code, value, checked, out.len()) {
+        Verdict::Fails(why) => refused(state, why, checked.place),
         Verdict::Passes => {
             let written = write_error(out, id, code, value);
             accepted(state.retire_peer(id), written)

@@ -45,7 +45,7 @@ ghost use Rattle.apdu.specs.Reading.{readPeerLink};
 ghost use Rattle.protocol.specs.Call.{invoke, result, error, reject};
 ghost use Rattle.protocol.specs.Check.{valueWell, inApdu, inBody, peerRecords};
 ghost use Rattle.protocol.specs.Perform.{isUserProblem};
-ghost use Rattle.rose.specs.Steps.{both, foundBy, Opens, Judged, Weighs};
+ghost use Rattle.rose.specs.Steps.{both, foundBy, Opens, Judged, ValueChecked};
 
 // A value, empty for none, is one well-formed element of at most so many levels.
 fn is_well(value: &[u8], levels: usize) -> bool
@@ -58,25 +58,25 @@ fn is_well(value: &[u8], levels: usize) -> bool
 }
 
 // What a request asks of its value: whether it is well-formed as many levels down as it stands, what it is at the full levels, and where it is at fault.
-pub(crate) struct Weighed {
+pub(crate) struct ValueCheck {
     pub fits: bool,
     pub finding: Finding,
     pub place: usize,
 }
 
 // A value is walked again, at the full levels, only where it is not well-formed as many levels down as it stands.
-pub(crate) fn weigh(value: &[u8], most: usize) -> Weighed
-    ensures { λ r. ⌜ ((down : ℕ) → most ≡ levels - down → Weighs down (now (value .entry)) r) ⌝ }
+pub(crate) fn check_value(value: &[u8], most: usize) -> ValueCheck
+    ensures { λ r. ⌜ ((down : ℕ) → most ≡ levels - down → ValueChecked down (now (value .entry)) r) ⌝ }
 {
     if is_well(value, most) {
-        return Weighed {
+        return ValueCheck {
             fits: true,
             finding: Finding::One,
             place: 0,
         };
     }
     let finding = finding_in(value, State::LEVELS);
-    Weighed {
+    ValueCheck {
         fits: false,
         finding,
         place: finding.place(),
@@ -101,14 +101,14 @@ pub(crate) fn check_invoke(
     code: Code,
     linked: PeerLink,
     value: &[u8],
-    weighed: Weighed,
+    checked: ValueCheck,
     room: usize,
 ) -> Verdict
-    ensures { λ r. ⌜ ((codes : List ℕ) (peer : Records) → Opens (now (table .entry)) (both (lent count (now (ids .entry)) codes) peer) (length (view (lent count (now (ids .entry)) codes))) (foundBy (readPeerLink linked) (view peer)) opened → PlaceOf (now (table .entry)) Operations code place → Weighs inApdu (now (value .entry)) weighed → Judged (now (table .entry)) (both (lent count (now (ids .entry)) codes) peer) (invoke (id .0) code (readPeerLink linked) (now (value .entry)) room) r) ⌝ }
+    ensures { λ r. ⌜ ((codes : List ℕ) (peer : Records) → Opens (now (table .entry)) (both (lent count (now (ids .entry)) codes) peer) (length (view (lent count (now (ids .entry)) codes))) (foundBy (readPeerLink linked) (view peer)) opened → PlaceOf (now (table .entry)) Operations code place → ValueChecked inApdu (now (value .entry)) checked → Judged (now (table .entry)) (both (lent count (now (ids .entry)) codes) peer) (invoke (id .0) code (readPeerLink linked) (now (value .entry)) room) r) ⌝ }
 {
     let named = operation_in(table, place);
-    let fits = weighed.fits;
-    let finding = weighed.finding;
+    let fits = checked.fits;
+    let finding = checked.finding;
     let size = invoke_size(id, linked, code, value);
     let is_linked = is_peer_linked(linked);
     let verdict = opened.verdict;
@@ -133,15 +133,15 @@ pub(crate) fn check_result(
     table: &[u8],
     id: PeerId,
     value: &[u8],
-    weighed: Weighed,
+    checked: ValueCheck,
     room: usize,
 ) -> Verdict
-    ensures { λ r. ⌜ ((s : State) (asked : ℕ) → Opens (now (table .entry)) s asked (lookup (id .0) (peerRecords s)) opened → Weighs inBody (now (value .entry)) weighed → Judged (now (table .entry)) s (result (id .0) (now (value .entry)) room) r) ⌝ }
+    ensures { λ r. ⌜ ((s : State) (asked : ℕ) → Opens (now (table .entry)) s asked (lookup (id .0) (peerRecords s)) opened → ValueChecked inBody (now (value .entry)) checked → Judged (now (table .entry)) s (result (id .0) (now (value .entry)) room) r) ⌝ }
 {
     let found = opened.found;
     let named = operation_at(table, opened.entry);
-    let fits = weighed.fits;
-    let finding = weighed.finding;
+    let fits = checked.fits;
+    let finding = checked.finding;
     let size = result_size(id, code_found(found), value);
     let verdict = opened.verdict;
     verdict
@@ -161,17 +161,17 @@ pub(crate) fn check_error(
     id: PeerId,
     code: Code,
     value: &[u8],
-    weighed: Weighed,
+    checked: ValueCheck,
     room: usize,
 ) -> Verdict
-    ensures { λ r. ⌜ ((s : State) (asked : ℕ) → Opens (now (table .entry)) s asked (lookup (id .0) (peerRecords s)) opened → Weighs inApdu (now (value .entry)) weighed → Judged (now (table .entry)) s (error (id .0) code (now (value .entry)) room) r) ⌝ }
+    ensures { λ r. ⌜ ((s : State) (asked : ℕ) → Opens (now (table .entry)) s asked (lookup (id .0) (peerRecords s)) opened → ValueChecked inApdu (now (value .entry)) checked → Judged (now (table .entry)) s (error (id .0) code (now (value .entry)) room) r) ⌝ }
 {
     let found = opened.found;
     let used = operation_at(table, opened.entry);
     let place = error_place(table, code);
     let named = error_in(table, place);
-    let fits = weighed.fits;
-    let finding = weighed.finding;
+    let fits = checked.fits;
+    let finding = checked.finding;
     let size = error_size(id, code, value);
     let verdict = opened.verdict;
     verdict

@@ -18,11 +18,11 @@ use borrow.Author.Needs.{needs}
 use Rattle.rose.proofs.invoke.Statement.{statement}
 use Rattle.rose.proofs.invoke.Tie as tie
 
-abbrev weighed : tie.After-check-invoke → tie.After-weigh
-weighed c = c .before .before .before
+abbrev value-checked : tie.After-check-invoke → tie.After-check-value
+value-checked c = c .before .before .before
 
 abbrev placed : tie.After-check-invoke → tie.After-operation-place
-placed c = weighed c .before
+placed c = value-checked c .before
 
 abbrev start : tie.After-check-invoke → tie.Start
 start c = placed c .before .before .before .before .before .before .before .before .before .before .before .before .before .before
@@ -35,13 +35,13 @@ verdict c =
     let opened = placed c .before in let b = start c .args in let T = b .table .now in let s = b .t1 in
     c .check-invoke .ensures (s .own .codes) (s .peer)
     (opens-as T s _ _ _ _ _ (opened .before .before .live .ensures ∙ live-length (s .own .count) (s .own .ids) (s .own .codes)) (opened .before .peer-parent .ensures s) (opened .opening-of .ensures))
-    (placed c .operation-place .ensures) (weighed c .weigh .ensures inApdu refl)
+    (placed c .operation-place .ensures) (value-checked c .check-value .ensures inApdu refl)
 
 returns : tie.Need-returns
 returns c =
     let why = c .before .before in let checked = why .before .before in let b = start checked .args in
     request-refused (b .table .now) (b .t1) (call (start checked)) _ (verdict checked) (why .why .given .0 .0) (cc) (b .value .now) (b .out .now) _
-    (weighed checked .weigh .ensures inApdu refl .place) _ (c .refused .ensures)
+    (value-checked checked .check-value .ensures inApdu refl .place) _ (c .refused .ensures)
 
 passes : (a : tie.After-enum-told) → a .before .before .check-invoke .result ≡ Passes
 passes a = cc
