@@ -82,9 +82,9 @@ module _ (down most : ℕ) (o : most ≡ levels - down) (v : List ℕ) (b : Bool
       let one = well-finding (nonEmpty v) (well-at-all down (nonEmpty v) (sym (fits-down e))) in
       record { fits = fits-down e; finding = one; place = ap placeIn one ∙ value-place v }
 
-  pub value-does-not : b ≡ false → (f : Finding) → f ≡ findingIn levels v → (p : ℕ) → p ≡ placeIn f → ValueChecked down v (record { fits = false; finding = f; place = p })
+  pub value-fits-not : b ≡ false → (f : Finding) → f ≡ findingIn levels v → (p : ℕ) → p ≡ placeIn f → ValueChecked down v (record { fits = false; finding = f; place = p })
   unfolding valueWell valueFinding nonEmpty
-  value-does-not e f w p q = record { fits = fits-down e; finding = w ∙ go v (fits-down e); place = q ∙ ap placeIn w }
+  value-fits-not e f w p q = record { fits = fits-down e; finding = w ∙ go v (fits-down e); place = q ∙ ap placeIn w }
     where
       go : (v : List ℕ) → false ≡ valueWell (levels - down) (nonEmpty v) → findingIn levels v ≡ valueFinding levels (nonEmpty v)
       go [] h = absurd (false≢true h)
