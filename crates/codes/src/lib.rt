@@ -5,7 +5,7 @@ pub mod search;
 
 ghost use mathlib.Core.Path.{_≡_};
 ghost use Prim.Native.Nat.{_+_, _*_, _≤_, _<_};
-ghost use Rattle.codes.specs.Code.{codeRight, sameCode};
+ghost use Rattle.codes.specs.Code.{isRight, codeRight, sameCode};
 ghost use Rattle.codes.specs.Order.{rank, keyRank, below, sameKey};
 ghost use Rattle.codes.specs.Search.{sizeOf, flagsOf, namedBy};
 
@@ -14,6 +14,17 @@ pub struct Name {
     pub length: u8,
     pub high: u64,
     pub low: u64,
+}
+
+// Whether a name has its form, or what is wrong with it first.
+pub enum Form {
+    Right,
+    // It has not 1 to 16 octets.
+    Length,
+    // They are no contents of an OBJECT IDENTIFIER.
+    Contents,
+    // An octet behind them is not 0.
+    Padding,
 }
 
 // The code of an operation or of an error: the two's complement bits of a signed 32-bit number, or a name.
@@ -38,6 +49,19 @@ pub enum Kind {
 pub enum Place {
     At(u16),
     Nowhere,
+}
+
+impl Form {
+    pub fn is_right(self) -> bool
+        ensures { λ r. ⌜ r ≡ isRight self ⌝ }
+    {
+        match self {
+            Form::Right => true,
+            Form::Length => false,
+            Form::Contents => false,
+            Form::Padding => false,
+        }
+    }
 }
 
 impl Code {

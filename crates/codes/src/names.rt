@@ -1,6 +1,7 @@
 // Names: their octets, their form and their equality.
 ghost use mathlib.Core.Path.{_≡_};
-ghost use Rattle.codes.specs.Code.{nameOctets, noName, nameOf, sameName, nameRight};
+ghost use Rattle.codes.specs.Code.{nameOctets, nameOf, sameName, nameForm, nameRight};
+use crate::Form;
 use crate::Name;
 use base::octets::eight;
 use ber::rule::content_rule;
@@ -62,17 +63,29 @@ impl Name {
         self.low == other.low
     }
 
-    pub fn is_right(self) -> bool
-        ensures { λ r. ⌜ r ≡ nameRight self ⌝ }
+    pub fn form(self) -> Form
+        ensures { λ r. ⌜ r ≡ nameForm self ⌝ }
     {
+        if self.length < 1 {
+            return Form::Length;
+        }
         if self.length > 16 {
-            return false;
+            return Form::Length;
         }
         let octets = self.octets();
         let contents = &octets[..self.length as usize];
         if !content_rule(0x06, contents) {
-            return false;
+            return Form::Contents;
         }
-        self.same(Name::of(contents))
+        if !self.same(Name::of(contents)) {
+            return Form::Padding;
+        }
+        Form::Right
+    }
+
+    pub fn is_right(self) -> bool
+        ensures { λ r. ⌜ r ≡ nameRight self ⌝ }
+    {
+        self.form().is_right()
     }
 }
