@@ -98,7 +98,7 @@ fn rank(bits: u32) -> u32
 }
 
 impl Key {
-    fn rank(self) -> u64
+    pub fn rank(self) -> u64
         ensures { λ r. ⌜ r ≡ keyRank self ⌝ }
     {
         if self.named {

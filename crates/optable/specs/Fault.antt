@@ -1,21 +1,26 @@
--- The first rule that a table breaks. The order is ours, as document 01 orders no faults: the layout, then part by part its count and its entries in turn.
+-- The first rule that a table breaks. The order is ours, as the papers order no faults: the edition, the layout, then part by part its count and its entries in turn.
 use Prim.Native.Nat.{ℕ}
 use mathlib.Core.Bool.{Bool, true, false, cond, not}
 use mathlib.Core.List.{List}
 use lib.ListN.{length}
 use lib.Dec.{eqb, leb, ltb}
+use Rattle.codes.specs.declared.Key.{Key}
+use Rattle.codes.specs.declared.Form.{Form}
+use Rattle.codes.specs.Code.{isRight, nameForm}
 use Rattle.codes.specs.Count.{seek}
-use Rattle.optable.specs.Read.{count, start, classAt, flagsAt, argumentAt, resultAt, flagAt, parameterAt, firstAt, secondAt, secondPart}
-use Rattle.optable.specs.Validity.{withinLimit, behind, ruleRight, resultRight, allowed, fieldsRight, rises, entryRight}
+use Rattle.optable.specs.Read.{edition, headerOf, count, start, keyAt, nameAt, classAt, flagsAt, argumentAt, resultAt, flagAt, parameterAt, firstAt, secondAt, secondPart}
+use Rattle.optable.specs.Validity.{withinLimit, behind, editionRight, ruleRight, resultRight, operationFlags, errorFlags, keyRight, allowed, fieldsRight, standsRight, entryRight}
+use Rattle.optable.specs.declared.Edition.{Edition}
+use Rattle.optable.specs.declared.Edition.the-variants.{First, Second}
 use Rattle.optable.specs.declared.Part.{Part}
-use Rattle.optable.specs.declared.Part.the-variants.{Operations, Errors, ErrorPairs, ChildPairs}
+use Rattle.optable.specs.declared.Part.the-variants.{Operations, Errors, ErrorPairs, ChildPairs, Names}
 use Rattle.codes.specs.declared.Place.{Place}
 use Rattle.codes.specs.declared.Place.the-variants.{At, Nowhere}
 use Rattle.optable.specs.declared.Rule.{Rule}
 use Rattle.optable.specs.declared.Breach.{Breach}
-use Rattle.optable.specs.declared.Breach.the-variants.{Unbroken, Class, Flags, ArgumentFlag, ArgumentType, ResultFlag, ResultType, ResultUnexpected, ParameterFlag, ParameterType, FirstIndex, SecondIndex, PairClass, Order}
+use Rattle.optable.specs.declared.Breach.the-variants.{Unbroken, Class, Flags, ArgumentFlag, ArgumentType, ResultFlag, ResultType, ResultUnexpected, ParameterFlag, ParameterType, NameIndex, FirstIndex, SecondIndex, PairClass, NameForm, Order, Repeated}
 use Rattle.optable.specs.declared.Fault.{Fault}
-use Rattle.optable.specs.declared.Fault.the-variants.{Nothing, Header, Offset, Length, Count, Entry}
+use Rattle.optable.specs.declared.Fault.the-variants.{Nothing, UnknownEdition, Header, Offset, Length, Count, Entry}
 
 -- ---- an entry: its rules in their order, each with its name
 
@@ -31,10 +36,13 @@ unbroken ResultType = false
 unbroken ResultUnexpected = false
 unbroken ParameterFlag = false
 unbroken ParameterType = false
+unbroken NameIndex = false
 unbroken FirstIndex = false
 unbroken SecondIndex = false
 unbroken PairClass = false
+unbroken (NameForm f) = false
 unbroken Order = false
+unbroken Repeated = false
 
 -- a rule that does not hold is the one broken; where it holds, the rules behind it decide
 abbrev pub needs : Bool → Breach → Breach → Breach
@@ -44,19 +52,31 @@ needs holds broken behind = cond holds behind broken
 abbrev pub ruleBreach : Rule → Breach → Breach → Breach
 ruleBreach r flag type = cond (eqb (r .identifier) 0) flag type
 
-unfoldable pub operationBreach : ℕ → ℕ → Rule → Rule → Breach
-operationBreach class flags argument result =
+unfoldable pub operationBreach : Edition → ℕ → ℕ → Rule → Rule → Breach
+operationBreach e class flags argument result =
     needs (leb 1 class) Class
     (needs (leb class 5) Class
-    (needs (leb flags 3) Flags
+    (needs (leb flags (operationFlags e)) Flags
     (needs (ruleRight argument) (ruleBreach argument ArgumentFlag ArgumentType)
     (needs (ruleRight result) (ruleBreach result ResultFlag ResultType)
     (needs (resultRight class result) ResultUnexpected Unbroken)))))
 
-unfoldable pub errorBreach : ℕ → Rule → Breach
-errorBreach flag parameter =
-    needs (leb flag 1) Flags
+unfoldable pub errorBreach : Edition → ℕ → Rule → Breach
+errorBreach e flags parameter =
+    needs (leb flags (errorFlags e)) Flags
     (needs (ruleRight parameter) (ruleBreach parameter ParameterFlag ParameterType) Unbroken)
+
+-- the first of two breaches
+abbrev pub breachOf : Breach → Breach → Breach
+breachOf a b = cond (unbroken a) b a
+
+-- what a code breaks
+unfoldable pub keyBreach : List ℕ → Key → Breach
+keyBreach t s = needs (keyRight t s) NameIndex Unbroken
+
+-- what a name breaks by itself
+unfoldable pub formBreach : Form → Breach
+formBreach f = needs (isRight f) (NameForm f) Unbroken
 
 unfoldable pub pairBreach : List ℕ → Part → ℕ → Breach
 pairBreach t k i =
@@ -66,14 +86,23 @@ pairBreach t k i =
 
 -- what entry i breaks by itself
 unfoldable pub fieldsBreach : List ℕ → Part → ℕ → Breach
-fieldsBreach t Operations i = operationBreach (classAt t i) (flagsAt t i) (argumentAt t i) (resultAt t i)
-fieldsBreach t Errors i = errorBreach (flagAt t i) (parameterAt t i)
+fieldsBreach t Operations i = breachOf (operationBreach (edition t) (classAt t i) (flagsAt t i) (argumentAt t i) (resultAt t i)) (keyBreach t (keyAt t Operations i))
+fieldsBreach t Errors i = breachOf (errorBreach (edition t) (flagAt t i) (parameterAt t i)) (keyBreach t (keyAt t Errors i))
 fieldsBreach t ErrorPairs i = pairBreach t ErrorPairs i
 fieldsBreach t ChildPairs i = pairBreach t ChildPairs i
+fieldsBreach t Names i = formBreach (nameForm (nameAt t i))
+
+-- what an entry breaks that may not stand where it does
+abbrev pub standBreach : Part → Breach
+standBreach Operations = Order
+standBreach Errors = Order
+standBreach ErrorPairs = Order
+standBreach ChildPairs = Order
+standBreach Names = Repeated
 
 -- what entry i breaks
 unfoldable pub entryBreach : List ℕ → Part → ℕ → Breach
-entryBreach t k i = needs (fieldsRight t k i) (fieldsBreach t k i) (needs (rises t k i) Order Unbroken)
+entryBreach t k i = needs (fieldsRight t k i) (fieldsBreach t k i) (needs (standsRight t k i) (standBreach k) Unbroken)
 
 -- ---- a part
 
@@ -91,25 +120,33 @@ partFault t k = cond (withinLimit t k) (entryFault t k (firstWrong t k)) (Count 
 
 -- ---- the layout
 
--- a header of 16 octets, each part where the one before it ends, and the table's end where the last part's is
+-- the table's end stands where the last part's is
+unfoldable pub endFault : Edition → List ℕ → Fault
+endFault First t = cond (eqb (length t) (behind t ChildPairs)) Nothing Length
+endFault Second t = cond (eqb (start t Names) (behind t ChildPairs)) (cond (eqb (length t) (behind t Names)) Nothing Length) (Offset Names)
+
+-- an edition that is known, a whole header, each part where the one before it ends, and the table's end where the last part's is
 unfoldable pub layoutFault : List ℕ → Fault
 layoutFault t =
-    cond (leb 16 (length t))
-    (cond (eqb (start t Operations) 16)
+    cond (editionRight t)
+    (cond (leb (headerOf (edition t)) (length t))
+    (cond (eqb (start t Operations) (headerOf (edition t)))
     (cond (eqb (start t Errors) (behind t Operations))
     (cond (eqb (start t ErrorPairs) (behind t Errors))
     (cond (eqb (start t ChildPairs) (behind t ErrorPairs))
-    (cond (eqb (length t) (behind t ChildPairs)) Nothing Length)
+    (endFault (edition t) t)
     (Offset ChildPairs))
     (Offset ErrorPairs))
     (Offset Errors))
     (Offset Operations))
-    Header
+    Header)
+    UnknownEdition
 
 -- ---- the whole
 
 abbrev pub nothing : Fault → Bool
 nothing Nothing = true
+nothing UnknownEdition = false
 nothing Header = false
 nothing (Offset k) = false
 nothing Length = false
@@ -125,4 +162,5 @@ firstFault t =
     firstOf (layoutFault t)
     (firstOf (partFault t Operations)
     (firstOf (partFault t Errors)
-    (firstOf (partFault t ErrorPairs) (partFault t ChildPairs))))
+    (firstOf (partFault t ErrorPairs)
+    (firstOf (partFault t ChildPairs) (partFault t Names)))))

@@ -1,15 +1,15 @@
--- What a table says of a code, and when one table extends another: document 01, 'Operation table'.
+-- What a table says of a code, and when one table extends another: document 01, 'Operation table'; document 02, Five.
 use Prim.Native.Nat.{ℕ, _<_}
 use mathlib.Core.Path.{_≡_}
 use mathlib.Core.Bool.{Bool, true, false, _&&_}
 use mathlib.Core.List.{List}
-use Rattle.records.specs.declared.Code.{Code}
+use Rattle.codes.specs.declared.Code.{Code}
 use Rattle.base.specs.Count.{every, any}
 use Rattle.codes.specs.Count.{seek}
-use Rattle.optable.specs.Read.{count, hasCode, operationAt, errorAt, firstAt, secondAt, secondPart}
-use Rattle.optable.specs.Validity.{withinLimit, rises, valid}
+use Rattle.optable.specs.Read.{count, keyAt, hasCode, operationAt, idempotentAt, errorAt, firstAt, secondAt, secondPart}
+use Rattle.optable.specs.Validity.{withinLimit, rises, keyRight, newName, valid}
 use Rattle.optable.specs.declared.Part.{Part}
-use Rattle.optable.specs.declared.Part.the-variants.{Operations, Errors, ErrorPairs, ChildPairs}
+use Rattle.optable.specs.declared.Part.the-variants.{Operations, Errors, ErrorPairs, ChildPairs, Names}
 use Rattle.codes.specs.declared.Place.{Place}
 use Rattle.codes.specs.declared.Place.the-variants.{At, Nowhere}
 use Rattle.optable.specs.declared.Rule.{Rule}
@@ -32,6 +32,15 @@ operationIn t Nowhere = Unlisted
 -- the operation of a code
 unfoldable pub operationOf : List ℕ → Code → Operation
 operationOf t c = operationIn t (find t Operations c)
+
+-- whether the operation at a place is idempotent, if there is one
+unfoldable pub idempotentIn : List ℕ → Place → Bool
+idempotentIn t (At i) = idempotentAt t i
+idempotentIn t Nowhere = false
+
+-- whether the operation of a code is idempotent: a question of its own, so that extension does not compare it
+unfoldable pub idempotentOf : List ℕ → Code → Bool
+idempotentOf t c = idempotentIn t (find t Operations c)
 
 -- the error at a place, if there is one
 unfoldable pub errorIn : List ℕ → Place → Error
@@ -104,7 +113,8 @@ hasChild t c = any (parentAt t c) (count t ChildPairs)
 
 -- ---- extension
 
--- N extends O: each operation of O is in N with the same class, types and flags, each error with the same parameter rule, and each pair, read by codes
+-- N extends O: each operation of O is in N with the same class, types and flags 1 and 2, each error with the same parameter rule, and each pair, read by codes,
+-- whatever the tables' editions are and however they number their names
 pub record Extends (N O : List ℕ) : Type 0 where
   pub operations : (c : Code) → listed (operationOf O c) ≡ true → operationOf N c ≡ operationOf O c
   pub errors : (e : Code) → known (errorOf O e) ≡ true → errorOf N e ≡ errorOf O e
@@ -113,9 +123,13 @@ pub record Extends (N O : List ℕ) : Type 0 where
 
 -- ---- what the code answers
 
--- a list in order: at most its limit of entries, and they rise
+-- a list in order: at most its limit of entries, which rise; the names that are codes exist, and names are all different
 unfoldable pub ordered : List ℕ → Part → Bool
-ordered t k = withinLimit t k && every (rises t k) (count t k)
+ordered t k =
+    withinLimit t k
+    && (every (rises t k) (count t k)
+    && (every (λ i. keyRight t (keyAt t k i)) (count t k)
+    && every (newName t) (count t Names)))
 
 -- a place is none, or that of an entry of the list with the code
 abbrev pub Holds : List ℕ → Part → Code → Place → Type 0

@@ -1,15 +1,25 @@
 -- What only serves the proofs of parts: no promise of a public function rests on it.
 use Prim.Native.Nat.{ℕ, _+_, _*_, _-_, _≤_, _<_}
 use mathlib.Core.Path.{_≡_}
-use mathlib.Core.Bool.{Bool, true, _&&_}
+use mathlib.Core.Bool.{Bool, true, false, cond, _&&_}
 use mathlib.Core.List.{List}
 use lib.ListN.{length}
 use lib.Dec.{eqb, leb}
-use Rattle.base.specs.Octets.{u16}
-use Rattle.optable.specs.Read.{count, entryStart, sizeOf, secondPart}
+use Rattle.base.specs.Octets.{u16, u32}
+use Rattle.codes.specs.declared.Name.{Name}
+use Rattle.codes.specs.declared.Code.{Code}
+use Rattle.codes.specs.declared.Code.the-variants.{Local, Global}
+use Rattle.codes.specs.declared.Key.{Key}
+use Rattle.codes.specs.declared.Place.{Place}
+use Rattle.codes.specs.declared.Place.the-variants.{At, Nowhere}
+use Rattle.codes.specs.Code.{sameName}
+use Rattle.codes.specs.Order.{keyRank}
+use Rattle.codes.specs.Count.{seek}
+use Rattle.codes.specs.Search.{keyHere, inSeven}
+use Rattle.optable.specs.Read.{edition, count, entryStart, sizeOf, coded, kindOf, keyAt, nameAt, secondPart}
 use Rattle.optable.specs.Validity.{laidOut}
 use Rattle.optable.specs.declared.Part.{Part}
-use Rattle.optable.specs.declared.Part.the-variants.{Operations}
+use Rattle.optable.specs.declared.Part.the-variants.{Operations, Names}
 use Rattle.optable.specs.declared.entry.Reached.{Reached}
 use Rattle.optable.specs.declared.entry.Counts.{Counts}
 
@@ -21,11 +31,38 @@ pub record Stands (t : List ℕ) (k : Part) (e : Reached) : Type 0 where
   pub here : e .at ≡ entryStart t k (e .index)
   pub last : 1 ≤ e .index → e .before ≡ entryStart t k (e .index - 1)
   pub inside : e .at + sizeOf k ≤ length t
-  pub near : e .at < 1048560
+  pub near : e .at < 2097152
 
--- the counts that pairs are held against
+-- the edition, and the counts that indexes are held against
 abbrev pub countsOf : List ℕ → Part → Counts
-countsOf t k = record { operations = count t Operations; seconds = count t (secondPart k) }
+countsOf t k = record { edition = edition t; operations = count t Operations; seconds = count t (secondPart k); names = count t Names }
+
+-- a number that rises with the entries, of the entry that starts there
+abbrev pub orderHere : List ℕ → Part → ℕ → ℕ
+orderHere t k at = cond (coded k) (keyRank (keyHere t (kindOf k) at)) (u32 t at)
+
+-- ---- the search for a code
+
+-- name j is the one sought
+unfoldable pub hasName : List ℕ → Name → ℕ → Bool
+hasName t n j = sameName (nameAt t j) n
+
+-- where a name stands among the names, which are in no order
+unfoldable pub namePlace : List ℕ → Name → Place
+namePlace t n = seek (hasName t n) (count t Names) 0
+
+-- where a key stands in a list: seven looks
+unfoldable pub keyPlace : List ℕ → Part → Key → Place
+keyPlace t k s = inSeven (keyAt t k) s (count t k)
+
+unfoldable pub placeNamed : List ℕ → Part → Place → Place
+placeNamed t k (At j) = keyPlace t k (record { named = true; number = j })
+placeNamed t k Nowhere = Nowhere
+
+-- what the search answers of a code: a local code is its own key, a name's is its index
+unfoldable pub searched : List ℕ → Part → Code → Place
+searched t k (Local x) = keyPlace t k (record { named = false; number = x })
+searched t k (Global n) = placeNamed t k (namePlace t n)
 
 -- ---- the search over pairs
 

@@ -1,26 +1,34 @@
 // Which rule a part's entries break, each by itself and in their order.
 ghost use mathlib.Core.Path.{_≡_};
-ghost use mathlib.Core.Bool.{true, cond};
+ghost use mathlib.Core.Bool.{true};
 ghost use lib.ListN.{length};
-ghost use Prim.Native.Nat.{_-_, _≤_, _<_};
-ghost use Rattle.codes.specs.Order.{rank};
-ghost use Rattle.optable.specs.Validity.{laidOut, coded, above, rises};
-ghost use Rattle.optable.specs.Read.{count, classAt};
-ghost use Rattle.optable.specs.Fault.{pairBreach, fieldsBreach, entryBreach, firstWrong, entryFault};
-ghost use Rattle.optable.specs.Steps.{Stands, countsOf};
+ghost use Prim.Native.Nat.{_+_, _-_, _≤_, _<_};
+ghost use Rattle.codes.specs.Search.{keyHere, sizeOf as entrySize};
+ghost use Rattle.optable.specs.Validity.{laidOut, above, rises, newName, standsRight};
+ghost use Rattle.optable.specs.Read.{edition, headerOf, hasPart, count, start, sizeOf, nameAt, classAt};
+ghost use Rattle.optable.specs.Fault.{pairBreach, fieldsBreach, standBreach, entryBreach, firstWrong, entryFault};
+ghost use Rattle.optable.specs.Steps.{orderHere, Stands, countsOf};
 use crate::Breach;
+use crate::Edition;
 use crate::Fault;
 use crate::Part;
 use crate::Rule;
 use crate::fields::error_breach;
+use crate::fields::form_breach;
 use crate::fields::is_allowed;
+use crate::fields::key_breach;
 use crate::fields::operation_breach;
 use crate::read::count_within;
 use crate::read::four_within;
+use crate::read::header_of;
+use crate::read::name_within;
 use crate::read::second_part;
 use crate::read::size_of;
 use crate::read::start_within;
 use crate::read::two_within;
+use codes::Key;
+use codes::Kind;
+use codes::Name;
 
 // An entry that a walk has reached: its index, where it starts, and where the entry before it starts.
 struct Reached {
@@ -29,28 +37,32 @@ struct Reached {
     before: usize,
 }
 
-// How many operations there are, and how many of what a pair's second index is of.
+// The edition, how many operations and names there are, and how many of what a pair's second index is of.
 struct Counts {
+    edition: Edition,
     operations: u16,
     seconds: u16,
+    names: u16,
 }
 
-fn counts_of(table: &[u8], part: Part) -> Counts
-    requires { ⌜ 16 ≤ length (now table) ⌝ }
+fn counts_of(table: &[u8], e: Edition, part: Part) -> Counts
+    requires { ⌜ (e ≡ edition (now table)) × (headerOf e ≤ length (now table)) ⌝ }
     ensures { λ r. ⌜ r ≡ countsOf (now (table .entry)) part ⌝ }
 {
     Counts {
-        operations: count_within(table, Part::Operations),
-        seconds: count_within(table, second_part(part)),
+        edition: e,
+        operations: count_within(table, e, Part::Operations),
+        seconds: count_within(table, e, second_part(part)),
+        names: count_within(table, e, Part::Names),
     }
 }
 
-// The class of an operation: in a table that is laid out they start at 16.
-fn class_within(table: &[u8], i: u16) -> u8
-    requires { ⌜ (laidOut (now table) ≡ true) × (i < count (now table) Part.Operations) ⌝ }
+// The class of an operation: in a table that is laid out they start behind the header.
+fn class_within(table: &[u8], e: Edition, i: u16) -> u8
+    requires { ⌜ (laidOut (now table) ≡ true) × (e ≡ edition (now table)) × (i < count (now table) Part.Operations) ⌝ }
     ensures { λ r. ⌜ r ≡ classAt (now (table .entry)) i ⌝ }
 {
-    table[16 + (i as usize) * 8 + 4]
+    table[header_of(e) + (i as usize) * 8 + 4]
 }
 
 fn pair_breach(table: &[u8], part: Part, reached: Reached, counts: Counts) -> Breach
@@ -64,29 +76,40 @@ fn pair_breach(table: &[u8], part: Part, reached: Reached, counts: Counts) -> Br
     if two_within(table, reached.at + 2) >= counts.seconds {
         return Breach::SecondIndex;
     }
-    if !is_allowed(part, class_within(table, operation)) {
+    let e = counts.edition;
+    if !is_allowed(part, class_within(table, e, operation)) {
         return Breach::PairClass;
     }
     Breach::Unbroken
 }
 
-// What is added to the four octets that an entry starts with, so that they rise as numbers: codes rise as signed ones.
-fn shift_of(part: Part) -> u32
-    ensures { λ r. ⌜ r ≡ cond (coded part) 2147483648 0 ⌝ }
+// How a code stands in an entry that the table has.
+fn key_within(table: &[u8], kind: Kind, at: usize) -> Key
+    requires { ⌜ at + entrySize kind ≤ length (now table) ⌝ }
+    ensures { λ r. ⌜ r ≡ keyHere (now (table .entry)) kind at ⌝ }
 {
-    match part {
-        Part::Operations => 0x8000_0000,
-        Part::Errors => 0x8000_0000,
-        Part::ErrorPairs => 0,
-        Part::ChildPairs => 0,
+    let flags = match kind {
+        Kind::Operation => table[at + 7],
+        Kind::Error => table[at + 5],
+    };
+    Key {
+        named: kind.is_named(flags),
+        number: four_within(table, at),
     }
 }
 
 // A number that rises with the entries: the rank of a code, a pair as one number of four octets.
-fn order_of(part: Part, bits: u32) -> u32
-    ensures { λ r. ⌜ r ≡ cond (coded part) (rank bits) bits ⌝ }
+fn order_within(table: &[u8], part: Part, at: usize) -> u64
+    requires { ⌜ at + sizeOf part ≤ length (now table) ⌝ }
+    ensures { λ r. ⌜ r ≡ orderHere (now (table .entry)) part at ⌝ }
 {
-    std::num::wrapping_add_u32(bits, shift_of(part))
+    match part {
+        Part::Operations => key_within(table, Kind::Operation, at).rank(),
+        Part::Errors => key_within(table, Kind::Error, at).rank(),
+        Part::ErrorPairs => four_within(table, at) as u64,
+        Part::ChildPairs => four_within(table, at) as u64,
+        Part::Names => four_within(table, at) as u64,
+    }
 }
 
 // Whether an entry stands above the one before it.
@@ -94,9 +117,7 @@ fn is_above(table: &[u8], part: Part, reached: Reached) -> bool
     requires { ⌜ Stands (now table) part reached × (1 ≤ reached .index) ⌝ }
     ensures { λ r. ⌜ r ≡ above (now (table .entry)) part (reached .index - 1) (reached .index) ⌝ }
 {
-    let before = four_within(table, reached.before);
-    let here = four_within(table, reached.at);
-    order_of(part, before) < order_of(part, here)
+    order_within(table, part, reached.before) < order_within(table, part, reached.at)
 }
 
 // Whether an entry is the first or stands above the one before it.
@@ -110,8 +131,56 @@ fn is_rising(table: &[u8], part: Part, reached: Reached) -> bool
     is_above(table, part, reached)
 }
 
-fn operation_at_breach(table: &[u8], reached: Reached) -> Breach
-    requires { ⌜ Stands (now table) Part.Operations reached ⌝ }
+// Whether a name is none of those before it, which start at `first`.
+fn is_new_name(table: &[u8], first: usize, i: u16, name: Name) -> bool
+    requires { ⌜ (laidOut (now table) ≡ true) × (i < count (now table) Part.Names) × (first ≡ start (now table) Part.Names) × (first < 65536) × (name ≡ nameAt (now table) i) ⌝ }
+    ensures { λ r. ⌜ r ≡ newName (now (table .entry)) i ⌝ }
+{
+    let mut at = first;
+    let mut h: u16 = 0;
+    while h < i {
+        if name_within(table, at).same(name) {
+            return false;
+        }
+        at += 17;
+        h += 1;
+    }
+    true
+}
+
+// Whether an entry may stand where it does.
+fn is_standing(table: &[u8], part: Part, reached: Reached, counts: Counts) -> bool
+    requires { ⌜ Stands (now table) part reached × (counts ≡ countsOf (now table) part) × (reached .index < count (now table) part) ⌝ }
+    ensures { λ r. ⌜ r ≡ standsRight (now (table .entry)) part (reached .index) ⌝ }
+{
+    match part {
+        Part::Operations => is_rising(table, part, reached),
+        Part::Errors => is_rising(table, part, reached),
+        Part::ErrorPairs => is_rising(table, part, reached),
+        Part::ChildPairs => is_rising(table, part, reached),
+        Part::Names => {
+            let e = counts.edition;
+            let first = start_within(table, e, Part::Names) as usize;
+            is_new_name(table, first, reached.index, name_within(table, reached.at))
+        }
+    }
+}
+
+// What an entry breaks that may not stand where it does.
+fn stand_breach(part: Part) -> Breach
+    ensures { λ r. ⌜ r ≡ standBreach part ⌝ }
+{
+    match part {
+        Part::Operations => Breach::Order,
+        Part::Errors => Breach::Order,
+        Part::ErrorPairs => Breach::Order,
+        Part::ChildPairs => Breach::Order,
+        Part::Names => Breach::Repeated,
+    }
+}
+
+fn operation_at_breach(table: &[u8], reached: Reached, counts: Counts) -> Breach
+    requires { ⌜ Stands (now table) Part.Operations reached × (counts .edition ≡ edition (now table)) × (counts .names ≡ count (now table) Part.Names) ⌝ }
     ensures { λ r. ⌜ r ≡ fieldsBreach (now (table .entry)) Part.Operations (reached .index) ⌝ }
 {
     let at = reached.at;
@@ -124,20 +193,30 @@ fn operation_at_breach(table: &[u8], reached: Reached) -> Breach
         identifier: table[at + 6],
         optional: flags / 2 % 2 == 1,
     };
-    operation_breach(table[at + 4], flags, argument, result)
+    let e = counts.edition;
+    let breach = operation_breach(e, table[at + 4], flags, argument, result);
+    if !breach.is_unbroken() {
+        return breach;
+    }
+    key_breach(key_within(table, Kind::Operation, at), counts.names)
 }
 
-fn error_at_breach(table: &[u8], reached: Reached) -> Breach
-    requires { ⌜ Stands (now table) Part.Errors reached ⌝ }
+fn error_at_breach(table: &[u8], reached: Reached, counts: Counts) -> Breach
+    requires { ⌜ Stands (now table) Part.Errors reached × (counts .edition ≡ edition (now table)) × (counts .names ≡ count (now table) Part.Names) ⌝ }
     ensures { λ r. ⌜ r ≡ fieldsBreach (now (table .entry)) Part.Errors (reached .index) ⌝ }
 {
     let at = reached.at;
-    let flag = table[at + 5];
+    let flags = table[at + 5];
     let parameter = Rule {
         identifier: table[at + 4],
-        optional: flag % 2 == 1,
+        optional: flags % 2 == 1,
     };
-    error_breach(flag, parameter)
+    let e = counts.edition;
+    let breach = error_breach(e, flags, parameter);
+    if !breach.is_unbroken() {
+        return breach;
+    }
+    key_breach(key_within(table, Kind::Error, at), counts.names)
 }
 
 // What an entry breaks by itself.
@@ -146,36 +225,37 @@ fn fields_breach(table: &[u8], part: Part, reached: Reached, counts: Counts) -> 
     ensures { λ r. ⌜ r ≡ fieldsBreach (now (table .entry)) part (reached .index) ⌝ }
 {
     match part {
-        Part::Operations => operation_at_breach(table, reached),
-        Part::Errors => error_at_breach(table, reached),
+        Part::Operations => operation_at_breach(table, reached, counts),
+        Part::Errors => error_at_breach(table, reached, counts),
         Part::ErrorPairs => pair_breach(table, part, reached, counts),
         Part::ChildPairs => pair_breach(table, part, reached, counts),
+        Part::Names => form_breach(name_within(table, reached.at).form()),
     }
 }
 
 fn entry_breach(table: &[u8], part: Part, reached: Reached, counts: Counts) -> Breach
-    requires { ⌜ Stands (now table) part reached × (counts ≡ countsOf (now table) part) ⌝ }
+    requires { ⌜ Stands (now table) part reached × (counts ≡ countsOf (now table) part) × (reached .index < count (now table) part) ⌝ }
     ensures { λ r. ⌜ r ≡ entryBreach (now (table .entry)) part (reached .index) ⌝ }
 {
     let fields = fields_breach(table, part, reached, counts);
     if !fields.is_unbroken() {
         return fields;
     }
-    if !is_rising(table, part, reached) {
-        return Breach::Order;
+    if !is_standing(table, part, reached, counts) {
+        return stand_breach(part);
     }
     Breach::Unbroken
 }
 
 // One walk over a part, to its first entry that is wrong.
-pub(crate) fn first_wrong(table: &[u8], part: Part) -> Fault
-    requires { ⌜ laidOut (now table) ≡ true ⌝ }
+pub(crate) fn first_wrong(table: &[u8], e: Edition, part: Part) -> Fault
+    requires { ⌜ (laidOut (now table) ≡ true) × (e ≡ edition (now table)) × (hasPart e part ≡ true) ⌝ }
     ensures { λ r. ⌜ r ≡ entryFault (now (table .entry)) part (firstWrong (now (table .entry)) part) ⌝ }
 {
-    let n = count_within(table, part);
-    let counts = counts_of(table, part);
+    let n = count_within(table, e, part);
+    let counts = counts_of(table, e, part);
     let size = size_of(part);
-    let mut at = start_within(table, part) as usize;
+    let mut at = start_within(table, e, part) as usize;
     let mut before: usize = 0;
     let mut i: u16 = 0;
     while i < n {

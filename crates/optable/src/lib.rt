@@ -1,8 +1,8 @@
-// The operation table: whether octets are a valid one, and what it says of a code: document 01, 'Operation table'.
+// The operation table: whether octets are a valid one, and what it says of a code: document 01, 'Operation table'; document 02, Five.
 ghost use mathlib.Core.Path.{_≡_};
 ghost use Rattle.optable.specs.Validity.{valid};
 ghost use Rattle.optable.specs.Fault.{firstFault};
-ghost use Rattle.optable.specs.Lookup.{operationIn, errorIn, paired, childOf, hasChild, CodeAnswer, PairAnswer};
+ghost use Rattle.optable.specs.Lookup.{operationIn, idempotentIn, errorIn, paired, childOf, hasChild, CodeAnswer, PairAnswer};
 ghost use Rattle.optable.specs.Extension.{extension, ExtendsAnswer};
 ghost use Rattle.base.specs.Lists.{nonEmpty};
 ghost use Rattle.optable.specs.Value.{valueRight};
@@ -16,17 +16,25 @@ pub mod places;
 pub mod read;
 mod validity;
 
+use codes::Code;
+use codes::Form;
 use extending::part_extension;
 use places::error_in;
 use places::error_place;
 use places::has_child_at;
+use places::idempotent_in;
 use places::is_child_at;
 use places::is_paired_at;
 use places::operation_in;
 use places::operation_place;
-use records::Code;
 use validity::layout_fault;
 use validity::part_fault;
+
+// The editions of a table: the second starts with 65,535 and 2, and has names.
+pub enum Edition {
+    First,
+    Second,
+}
 
 // The parts of a table, in their order.
 pub enum Part {
@@ -34,6 +42,7 @@ pub enum Part {
     Errors,
     ErrorPairs,
     ChildPairs,
+    Names,
 }
 
 // What a value must be: identifier 0 demands none, another is the value's first octet.
@@ -45,9 +54,11 @@ pub struct Rule {
 // The first rule that a table breaks.
 pub enum Fault {
     Nothing,
+    // The table starts with 65,535, and the edition behind it is not 2.
+    UnknownEdition,
     // There are fewer octets than a header has.
     Header,
-    // A part does not start where the one before it ends, the first at 16.
+    // A part does not start where the one before it ends, the first behind the header.
     Offset(Part),
     // The table does not end where its last part does.
     Length,
@@ -65,7 +76,7 @@ pub enum Breach {
     Unbroken,
     // An operation's class is 1 to 5.
     Class,
-    // An operation has no flags but 1 and 2, an error none but 1.
+    // An operation has no flags but 1 and 2, an error none but 1; in edition 2 also 4 and 8, and 2.
     Flags,
     // What has type 0 is not optional.
     ArgumentFlag,
@@ -77,14 +88,20 @@ pub enum Breach {
     ResultUnexpected,
     ParameterFlag,
     ParameterType,
+    // The index that a code is, is that of a name.
+    NameIndex,
     // The first index is that of an operation.
     FirstIndex,
     // The second index is that of an error, or of a child operation.
     SecondIndex,
     // An operation of class 4 or 5 has no error pair, one of class 5 no child pair.
     PairClass,
+    // A name has its form.
+    NameForm(Form),
     // Codes and pairs rise.
     Order,
+    // Names are all different.
+    Repeated,
 }
 
 // Whether a table extends another, or the first thing against it: an entry of the old table that the new one has not.
@@ -130,7 +147,11 @@ pub fn first_fault(table: &[u8]) -> Fault
     if !pairs.is_nothing() {
         return pairs;
     }
-    part_fault(table, Part::ChildPairs)
+    let children = part_fault(table, Part::ChildPairs);
+    if !children.is_nothing() {
+        return children;
+    }
+    part_fault(table, Part::Names)
 }
 
 pub fn valid(table: &[u8]) -> bool
@@ -143,6 +164,13 @@ pub fn operation_of(table: &[u8], code: Code) -> Operation
     ensures { λ r. ⌜ CodeAnswer (now (table .entry)) Part.Operations code (operationIn (now (table .entry))) r ⌝ }
 {
     operation_in(table, operation_place(table, code))
+}
+
+// Whether the operation of a code is idempotent: none is of edition 1.
+pub fn is_idempotent(table: &[u8], code: Code) -> bool
+    ensures { λ r. ⌜ CodeAnswer (now (table .entry)) Part.Operations code (idempotentIn (now (table .entry))) r ⌝ }
+{
+    idempotent_in(table, operation_place(table, code))
 }
 
 pub fn error_of(table: &[u8], code: Code) -> Error
