@@ -7,22 +7,12 @@ use mathlib.Core.List.{List, [], _∷_, _++_}
 use borrow.Author.Tests.{eq-eqb, ne-eqb, eqb-true, eqb-false, not-true}
 use lib.Dec.{eqb}
 use lib.ListN.{length}
-use Rattle.base.proofs.Tests.{and-left, and-right, or-false-left, or-false-right, cond-false, cond-elim, cond-elim₂}
-use Rattle.records.specs.declared.Code.{Code}
+use Rattle.base.proofs.Tests.{and-true, and-left, and-right, or-false-left, or-false-right, cond-false, cond-elim, cond-elim₂}
+use Rattle.codes.specs.declared.Code.{Code}
+use Rattle.codes.specs.Code.{codeRight}
 use Rattle.records.specs.declared.Record.{Record}
 use Rattle.records.specs.declared.Found.the-variants.{Operation, Nothing}
-use Rattle.records.specs.Records.{sameCode, lookup, member, without, distinct}
-
--- ---- codes
-
-pub same-code-equal : (a b : Code) → sameCode a b ≡ true → a ≡ b
-same-code-equal a b h =
-    let p = eqb-true (a .0) (b .0) h in
-    let e : _≡_ {A = Code} (record { 0 = a .0 }) (record { 0 = b .0 }) = cc in
-    e
-
-pub equal-code-same : (a b : Code) → a ≡ b → sameCode a b ≡ true
-equal-code-same a b e = eq-eqb (a .0) (b .0) (ap (λ (c : Code). c .0) e)
+use Rattle.records.specs.Records.{lookup, member, without, distinct, formed}
 
 operation-nothing : {k : Code} → Operation k ≡ Nothing → ⊥
 operation-nothing {k} e =
@@ -79,6 +69,10 @@ distinct-added (x ∷ l) r h g =
     rw (member-added (x .id) l r (head-once x l h) apart)
     (distinct-added l r (tail-distinct x l h) (tail-absent x l (r .id) g))
 
+pub formed-added : (l : List Record) (r : Record) → formed l ≡ true → codeRight (r .code) ≡ true → formed (l ++ r ∷ []) ≡ true
+formed-added [] r h g = and-true g refl
+formed-added (x ∷ l) r h g = and-true (and-left (codeRight (x .code)) (formed l) h) (formed-added l r (and-right (codeRight (x .code)) (formed l) h) g)
+
 -- validates `added`: the new record is found by its id
 pub lookup-added : (l : List Record) (r : Record) → member (r .id) l ≡ false → lookup (r .id) (l ++ r ∷ []) ≡ Operation (r .code)
 lookup-added [] r h = simp (eq-eqb (r .id) (r .id) refl)
@@ -131,6 +125,12 @@ distinct-without n (r ∷ l) h =
     let rest = distinct-without n l (tail-distinct r l h) in
     without-cases (λ x. distinct x ≡ true) n r l (λ _. rest)
     (λ _. rw (member-without n (r .id) l (head-once r l h)) rest)
+
+pub formed-without : (n : ℕ) (l : List Record) → formed l ≡ true → formed (without n l) ≡ true
+formed-without n [] h = refl
+formed-without n (r ∷ l) h =
+    let rest = formed-without n l (and-right (codeRight (r .code)) (formed l) h) in
+    without-cases (λ x. formed x ≡ true) n r l (λ _. rest) (λ _. and-true (and-left (codeRight (r .code)) (formed l) h) rest)
 
 -- validates `retired`: the id is found no more
 pub lookup-retired : (n : ℕ) (l : List Record) → lookup n (without n l) ≡ Nothing

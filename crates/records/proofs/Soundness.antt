@@ -9,14 +9,17 @@ use lib.Dec.{eqb, leb}
 use lib.ListN.{length, drop, set, replicate, length-append, length-take, length-drop, take-append-drop}
 use lib.Seq.{set-append-seam, take-append-seam, drop-append-seam, length-take-le}
 use Rattle.base.proofs.Tests.{and-true, and-left, and-right}
+use Rattle.codes.specs.Code.{sameCode, codeRight}
+use Rattle.codes.proofs.CodeLaws.{same-code-equal}
 use Rattle.records.specs.declared.Record.{Record}
 use Rattle.records.specs.declared.Records.{Records}
 use Rattle.records.specs.declared.State.{State}
 use Rattle.records.specs.Limits.{records}
-use Rattle.records.specs.Records.{sameCode, unused, places, side, view, pack, member, without, distinct, blank, soundRecords, added, retired}
+use Rattle.records.specs.Records.{unused, places, side, view, pack, member, without, distinct, formed, blank, soundRecords, added, retired}
 use Rattle.records.specs.State.{fresh, soundState}
-use Rattle.records.proofs.Rows.{rows-length, rows-side, side-back, view-pack}
-use Rattle.records.proofs.Laws.{same-code-equal, distinct-added, distinct-without, without-shorter, without-absent}
+use Rattle.records.proofs.Stored.{Storable, storable-rows, storable-take, storable-without, storable-append, storable-unused, storable-formed}
+use Rattle.records.proofs.Rows.{Even, rows-length, rows-side, side-back, view-pack}
+use Rattle.records.proofs.Laws.{distinct-added, distinct-without, formed-added, formed-without, without-shorter, without-absent}
 
 -- ---- the list and the side that holds it
 
@@ -27,17 +30,24 @@ one-less k p = omega arith
 abbrev pub appended : Records → Record → Records
 appended s r = side (s .count + 1) (set (places s) (s .count) r)
 
-pub appended-pack : (l : List Record) (r : Record) → length l < records → appended (pack l) r ≡ pack (l ++ r ∷ [])
-appended-pack l r p =
+pack-places : (l : List Record) → Storable l → places (pack l) ≡ l ++ replicate (records - length l) unused
+pack-places l f = rows-side (length l) (l ++ replicate (records - length l) unused) (storable-append l (replicate (records - length l) unused) f (storable-unused (records - length l)))
+
+pub appended-pack : (l : List Record) (r : Record) → Storable l → length l < records → appended (pack l) r ≡ pack (l ++ r ∷ [])
+appended-pack l r f p =
     let e = one-less (length l) p in
-    rw (rows-side (length l) (l ++ replicate (records - length l) unused)) (simp (e, set-append-seam, length-append, append-assoc))
+    rw (pack-places l f) (simp (e, set-append-seam, length-append, append-assoc))
+
+pub view-storable : (s : Records) → Storable (view s)
+view-storable s = storable-take (s .count) (places s) (storable-rows (s .ids) (s .lengths) (s .highs) (s .lows))
 
 pub view-retired : (s : Records) (n : ℕ) → view (retired s n) ≡ without n (view s)
-view-retired s n = view-pack (without n (view s))
+view-retired s n = view-pack (without n (view s)) (storable-without n (view s) (view-storable s))
 
 -- ---- unused places
 
 blank-replicate : (k : ℕ) → blank (replicate k unused) ≡ true
+unfolding sameCode
 blank-replicate zero = refl
 blank-replicate (suc k) = blank-replicate k
 
@@ -59,59 +69,69 @@ blank-is-unused (r ∷ l) h =
 
 module _ (s : Records) (h : soundRecords s ≡ true) where
   pub sound-is-short : s .count ≤ records
-  sound-is-short = leb-true (s .count) records (and-left (leb (s .count) records) (distinct (view s) && blank (drop (s .count) (places s))) h)
+  sound-is-short = leb-true (s .count) records (and-left (leb (s .count) records) _ h)
 
-  behind-count : (distinct (view s) && blank (drop (s .count) (places s))) ≡ true
-  behind-count = and-right (leb (s .count) records) (distinct (view s) && blank (drop (s .count) (places s))) h
+  behind-count : (distinct (view s) && (formed (view s) && blank (drop (s .count) (places s)))) ≡ true
+  behind-count = and-right (leb (s .count) records) _ h
+
+  behind-distinct : (formed (view s) && blank (drop (s .count) (places s))) ≡ true
+  behind-distinct = and-right (distinct (view s)) _ behind-count
 
   pub sound-is-distinct : distinct (view s) ≡ true
-  sound-is-distinct = and-left (distinct (view s)) (blank (drop (s .count) (places s))) behind-count
+  sound-is-distinct = and-left (distinct (view s)) _ behind-count
+
+  pub sound-is-formed : formed (view s) ≡ true
+  sound-is-formed = and-left (formed (view s)) _ behind-distinct
 
   sound-is-blank : blank (drop (s .count) (places s)) ≡ true
-  sound-is-blank = and-right (distinct (view s)) (blank (drop (s .count) (places s))) behind-count
+  sound-is-blank = and-right (formed (view s)) _ behind-distinct
 
 -- a sound side is its live records with unused places behind
-pub sound-is-packed : (s : Records) → length (s .ids) ≡ records → length (s .codes) ≡ records → soundRecords s ≡ true → s ≡ pack (view s)
+pub sound-is-packed : (s : Records) → length (s .ids) ≡ records → Even s → soundRecords s ≡ true → s ≡ pack (view s)
 sound-is-packed s p q h =
-    let full : length (places s) ≡ records = rows-length (s .ids) (s .codes) ∙ p in
+    let full : length (places s) ≡ records = rows-length (s .ids) (s .lengths) (s .highs) (s .lows) ∙ p in
     let few = sound-is-short s h in
     let n : length (view s) ≡ s .count = length-take-le (s .count) (places s) (omega arith) in
     let left : length (drop (s .count) (places s)) ≡ records - s .count = length-drop (s .count) (places s) ∙ ap (λ (k : ℕ). k - s .count) full in
     let clear = blank-is-unused (drop (s .count) (places s)) (sound-is-blank s h) in
     let tail : replicate (records - length (view s)) unused ≡ drop (s .count) (places s) = rw n (sym (clear ∙ ap (λ (k : ℕ). replicate k unused) left)) in
     let all : view s ++ replicate (records - length (view s)) unused ≡ places s = rw tail (take-append-drop (s .count) (places s)) in
-    sym (side-back s (p ∙ sym q)) ∙ ap (side (s .count)) (sym all) ∙ ap (λ (k : ℕ). side k (view s ++ replicate (records - length (view s)) unused)) (sym n)
+    sym (side-back s q) ∙ ap (side (s .count)) (sym all) ∙ ap (λ (k : ℕ). side k (view s ++ replicate (records - length (view s)) unused)) (sym n)
 
 -- what the laws keep of a side: a list in the logic may have any length, so that the side is packed is said beside the test
 pub record Sound (s : Records) : Type 0 where
   pub test : soundRecords s ≡ true
   pub packed : s ≡ pack (view s)
 
-pub packed-is-sound : (l : List Record) → length l ≤ records → distinct l ≡ true → Sound (pack l)
-packed-is-sound l few once =
+pub packed-is-sound : (l : List Record) → length l ≤ records → distinct l ≡ true → formed l ≡ true → Sound (pack l)
+packed-is-sound l few once form =
     record {
-      test = rw (rows-side (length l) (l ++ replicate (records - length l) unused)) (simp (le-leb _ _ few, take-append-seam, drop-append-seam, once, blank-replicate));
-      packed = ap pack (sym (view-pack l));
+      test = rw (pack-places l (storable-formed l form)) (simp (le-leb _ _ few, take-append-seam, drop-append-seam, once, form, blank-replicate));
+      packed = ap pack (sym (view-pack l (storable-formed l form)));
     }
 
 module _ {s : Records} (h : Sound s) where
   -- the new record goes last
   pub added-is-packed : (r : Record) → length (view s) < records → added s r ≡ pack (view s ++ r ∷ [])
-  added-is-packed r room = ap (λ (t : Records). added t r) (h .packed) ∙ simp (lt-ltb _ _ room) (appended-pack (view s) r room)
+  added-is-packed r room = ap (λ (t : Records). added t r) (h .packed) ∙ simp (lt-ltb _ _ room) (appended-pack (view s) r (view-storable s) room)
 
-  pub view-added : (r : Record) → length (view s) < records → view (added s r) ≡ view s ++ r ∷ []
-  view-added r room = ap view (added-is-packed r room) ∙ view-pack (view s ++ r ∷ [])
+  still-formed : (r : Record) → codeRight (r .code) ≡ true → formed (view s ++ r ∷ []) ≡ true
+  still-formed r form = formed-added (view s) r (sound-is-formed s (h .test)) form
 
-  pub added-is-sound : (r : Record) → length (view s) < records → member (r .id) (view s) ≡ false → Sound (added s r)
-  added-is-sound r room new =
+  pub view-added : (r : Record) → length (view s) < records → codeRight (r .code) ≡ true → view (added s r) ≡ view s ++ r ∷ []
+  view-added r room form = ap view (added-is-packed r room) ∙ view-pack (view s ++ r ∷ []) (storable-formed (view s ++ r ∷ []) (still-formed r form))
+
+  pub added-is-sound : (r : Record) → length (view s) < records → member (r .id) (view s) ≡ false → codeRight (r .code) ≡ true → Sound (added s r)
+  added-is-sound r room new form =
       subst Sound (sym (added-is-packed r room))
-      (packed-is-sound (view s ++ r ∷ []) (omega (arith, length-append (view s) (r ∷ []))) (distinct-added (view s) r (sound-is-distinct s (h .test)) new))
+      (packed-is-sound (view s ++ r ∷ []) (omega (arith, length-append (view s) (r ∷ []))) (distinct-added (view s) r (sound-is-distinct s (h .test)) new) (still-formed r form))
 
   pub retired-is-sound : (n : ℕ) → Sound (retired s n)
   retired-is-sound n =
       packed-is-sound (without n (view s))
       (omega (arith, without-shorter n (view s), length-take (s .count) (places s), sound-is-short s (h .test)))
       (distinct-without n (view s) (sound-is-distinct s (h .test)))
+      (formed-without n (view s) (sound-is-formed s (h .test)))
 
   -- validates `retired`: an id that is not there retires nothing
   pub retired-absent : (n : ℕ) → member n (view s) ≡ false → retired s n ≡ s
@@ -125,7 +145,7 @@ pub record SoundBoth (s : State) : Type 0 where
 
 pub fresh-is-sound : SoundBoth fresh
 fresh-is-sound =
-    let side = packed-is-sound [] (omega arith) refl in
+    let side = packed-is-sound [] (omega arith) refl refl in
     record { own = side; peer = side }
 
 module _ {s : State} (h : SoundBoth s) where
@@ -133,7 +153,7 @@ module _ {s : State} (h : SoundBoth s) where
   sound-state = and-true (h .own .test) (h .peer .test)
 
 -- validates `soundState`: where each field has its 32 places, as it has in code, a sound state is its live records with unused places behind
-pub sound-state-packed : (s : State) → length (s .own .ids) ≡ records → length (s .own .codes) ≡ records → length (s .peer .ids) ≡ records → length (s .peer .codes) ≡ records
+pub sound-state-packed : (s : State) → length (s .own .ids) ≡ records → Even (s .own) → length (s .peer .ids) ≡ records → Even (s .peer)
     → soundState s ≡ true → s ≡ record { own = pack (view (s .own)); peer = pack (view (s .peer)) }
 sound-state-packed s p q u v h =
     let own = sound-is-packed (s .own) p q (and-left (soundRecords (s .own)) (soundRecords (s .peer)) h) in

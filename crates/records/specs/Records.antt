@@ -1,40 +1,70 @@
--- The records of one side: document 01, 'Records'. What finding, adding and retiring mean is said of the list of the live records.
-use Prim.Native.Nat.{ℕ, _+_, _-_}
+-- The records of one side: document 01, 'Records'; document 02, Five. What finding, adding and retiring mean is said of the list of the live records.
+use Prim.Native.Nat.{ℕ, _+_, _-_, _*_, _/_, _%_}
 use mathlib.Core.Bool.{Bool, true, false, cond, not, _&&_, _||_}
 use mathlib.Core.List.{List, [], _∷_, _++_, map}
 use lib.ListN.{length, take, drop, getD, set, replicate}
 use lib.Dec.{eqb, leb, ltb}
-use Rattle.records.specs.declared.Code.{Code}
+use Rattle.codes.specs.declared.Name.{Name}
+use Rattle.codes.specs.declared.Code.{Code}
+use Rattle.codes.specs.declared.Code.the-variants.{Local, Global}
+use Rattle.codes.specs.Code.{sameCode, codeRight}
 use Rattle.records.specs.declared.Record.{Record}
 use Rattle.records.specs.declared.Records.{Records}
 use Rattle.records.specs.declared.Found.{Found}
 use Rattle.records.specs.declared.Found.the-variants.{Operation, Nothing}
 use Rattle.records.specs.Limits.{records}
 
--- the one equality of codes
-abbrev pub sameCode : Code → Code → Bool
-sameCode a b = eqb (a .0) (b .0)
+-- ---- how a code stands in a place
 
--- unused places hold 0, 0
+-- a name as it is; a local code with length 0, its four octets first and zeros behind
+unfoldable pub stored : Code → Name
+stored (Local x) = record { length = 0; high = x * 4294967296; low = 0 }
+stored (Global n) = n
+
+-- the one form of a local code
+unfoldable pub isLocal : Name → Bool
+isLocal n = eqb (n .length) 0 && (eqb (n .high % 4294967296) 0 && eqb (n .low) 0)
+
+-- the code that stands so: what has not the form of a local code is a name, if a wrong one
+unfoldable pub codeOf : Name → Code
+codeOf n = cond (isLocal n) (Local (n .high / 4294967296)) (Global n)
+
+-- what stands in place i, field by field
+abbrev pub nameIn : List ℕ → List ℕ → List ℕ → ℕ → Name
+nameIn lengths highs lows i = record { length = getD lengths i 0; high = getD highs i 0; low = getD lows i 0 }
+
+-- ---- the places of a side
+
+-- unused places hold 0 in every field
 abbrev pub unused : Record
-unused = record { id = 0; code = record { 0 = 0 } }
+unused = record { id = 0; code = Local 0 }
 
--- the places that ids and codes make side by side, as far as the ids go
-abbrev pub rows : List ℕ → List ℕ → List Record
-rows [] codes = []
-rows (i ∷ ids) codes = record { id = i; code = record { 0 = getD codes 0 0 } } ∷ rows ids (drop 1 codes)
+-- the record of an id and of what stands beside it
+abbrev pub row : ℕ → Name → Record
+row i n = record { id = i; code = codeOf n }
+
+-- the places that the fields make side by side, as far as the ids go
+abbrev pub rows : List ℕ → List ℕ → List ℕ → List ℕ → List Record
+rows [] lengths highs lows = []
+rows (i ∷ ids) lengths highs lows = row i (nameIn lengths highs lows 0) ∷ rows ids (drop 1 lengths) (drop 1 highs) (drop 1 lows)
 
 -- every place of a side
 abbrev pub places : Records → List Record
-places s = rows (s .ids) (s .codes)
+places s = rows (s .ids) (s .lengths) (s .highs) (s .lows)
 
 -- the side with a count and these places
 abbrev pub side : ℕ → List Record → Records
-side n l = record { count = n; ids = map (λ r. r .id) l; codes = map (λ r. r .code .0) l }
+side n l = record {
+  count = n;
+  ids = map (λ r. r .id) l;
+  lengths = map (λ r. stored (r .code) .length) l;
+  highs = map (λ r. stored (r .code) .high) l;
+  lows = map (λ r. stored (r .code) .low) l;
+}
 
 -- the side whose fields are lent
-abbrev pub lent : ℕ → List ℕ → List ℕ → Records
-lent n ids codes = record { count = n; ids = ids; codes = codes }
+abbrev pub lent : ℕ → List ℕ → List ℕ → List ℕ → List ℕ → Records
+lent n ids lengths highs lows = record { count = n; ids = ids; lengths = lengths; highs = highs; lows = lows }
 
 -- the live records of a side, in order: those below the count
 abbrev pub view : Records → List Record
@@ -64,14 +94,19 @@ abbrev pub distinct : List Record → Bool
 distinct [] = true
 distinct (r ∷ l) = not (member (r .id) l) && distinct l
 
+-- each code has its form
+abbrev pub formed : List Record → Bool
+formed [] = true
+formed (r ∷ l) = codeRight (r .code) && formed l
+
 -- each of these places is unused
 abbrev pub blank : List Record → Bool
 blank [] = true
 blank (r ∷ l) = (eqb (r .id) (unused .id) && sameCode (r .code) (unused .code)) && blank l
 
--- a side is sound: its count is at most 32, no id stands twice, unused places are 0, 0
+-- a side is sound: its count is at most 32, no id stands twice, each code has its form, unused places are 0
 abbrev pub soundRecords : Records → Bool
-soundRecords s = leb (s .count) records && (distinct (view s) && blank (drop (s .count) (places s)))
+soundRecords s = leb (s .count) records && (distinct (view s) && (formed (view s) && blank (drop (s .count) (places s))))
 
 -- a new record goes last; a full side stays as it is
 abbrev pub added : Records → Record → Records

@@ -1,9 +1,13 @@
 // Fields of a side, lent as lists of numbers.
 ghost use mathlib.Core.Path.{_≡_};
-ghost use Prim.Native.Nat.{_≤_, _<_};
+ghost use mathlib.Core.Bool.{_&&_};
+ghost use mathlib.Core.List.{List};
+ghost use Prim.Native.Nat.{ℕ, _≤_, _<_};
 ghost use lib.ListN.{length, take, drop};
-ghost use Rattle.records.specs.Records.{rows, blank};
-ghost use Rattle.records.specs.Steps.{isAmong, areApart, flags, flagOf};
+ghost use Rattle.records.specs.Records.{isLocal, stored, codeOf, rows, formed};
+ghost use Rattle.records.specs.Steps.{isAmong, areApart, flags, flagOf, allZero};
+use codes::Code;
+use codes::Name;
 
 // Whether the id is among these. The walk is not left early, so that ids are read several at a time.
 pub(crate) fn among(n: usize, ids: &[u32], id: u32) -> bool
@@ -59,16 +63,83 @@ pub(crate) fn apart(n: usize, ids: &[u32]) -> bool
     once
 }
 
-// Whether the places from `from` on are unused. The walk is not left early, so that places are read several at a time.
-pub(crate) fn is_clear<'a>(from: usize, ids: &'a [u32], codes: &'a [u32]) -> bool
-    requires { ⌜ length (now ids) ≡ length (now codes) ⌝ }
-    ensures { λ r. ⌜ r ≡ blank (drop from (rows (now (ids .entry)) (now (codes .entry)))) ⌝ }
+// Whether both lists hold 0 from `from` on. The walk is not left early, so that places are read several at a time.
+pub(crate) fn are_ids_clear<'a>(from: usize, ids: &'a [u32], lengths: &'a [u8]) -> bool
+    requires { ⌜ length (now ids) ≡ length (now lengths) ⌝ }
+    ensures { λ r. ⌜ r ≡ (allZero (drop from (now (ids .entry))) && allZero (drop from (now (lengths .entry)))) ⌝ }
 {
     let mut used: u32 = 0;
     let mut i = from;
     while i < ids.len() {
-        used = used | (ids[i] | codes[i]);
+        used = used | (ids[i] | (lengths[i] as u32));
         i += 1;
     }
     used == 0
+}
+
+// The same of two lists of words.
+pub(crate) fn are_words_clear<'a>(from: usize, highs: &'a [u64], lows: &'a [u64]) -> bool
+    requires { ⌜ length (now highs) ≡ length (now lows) ⌝ }
+    ensures { λ r. ⌜ r ≡ (allZero (drop from (now (highs .entry))) && allZero (drop from (now (lows .entry)))) ⌝ }
+{
+    let mut used: u64 = 0;
+    let mut i = from;
+    while i < highs.len() {
+        used = used | (highs[i] | lows[i]);
+        i += 1;
+    }
+    used == 0
+}
+
+// How a code stands in a place.
+pub(crate) fn stored(code: Code) -> Name
+    ensures { λ r. ⌜ r ≡ stored code ⌝ }
+{
+    match code {
+        Code::Local(x) => Name {
+            length: 0,
+            high: (x as u64) * 4294967296,
+            low: 0,
+        },
+        Code::Global(name) => name,
+    }
+}
+
+// Whether the code that stands so is local.
+fn is_local(name: Name) -> bool
+    ensures { λ r. ⌜ r ≡ isLocal name ⌝ }
+{
+    (name.length == 0) & ((name.high % 4294967296 == 0) & (name.low == 0))
+}
+
+// The code that stands so.
+pub(crate) fn code_of(name: Name) -> Code
+    ensures { λ r. ⌜ r ≡ codeOf name ⌝ }
+{
+    if is_local(name) {
+        return Code::Local((name.high / 4294967296) as u32);
+    }
+    Code::Global(name)
+}
+
+// Whether the codes that stand in these places have their form.
+pub(crate) fn are_formed<'a>(n: usize, lengths: &'a [u8], highs: &'a [u64], lows: &'a [u64]) -> bool
+    requires { ⌜ (n ≤ length (now lengths)) × (n ≤ length (now highs)) × (n ≤ length (now lows)) ⌝ }
+    ensures { λ r. ⌜ ((ids : List ℕ) → n ≤ length ids → r ≡ formed (take n (rows ids (now (lengths .entry)) (now (highs .entry)) (now (lows .entry))))) ⌝ }
+{
+    let mut i: usize = 0;
+    while i < n {
+        let name = Name {
+            length: lengths[i],
+            high: highs[i],
+            low: lows[i],
+        };
+        if !is_local(name) {
+            if !name.is_right() {
+                return false;
+            }
+        }
+        i += 1;
+    }
+    true
 }

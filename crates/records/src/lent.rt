@@ -1,17 +1,25 @@
 // What is read of a side, its fields being lent: no copy of it is made, however many fields it has.
 ghost use mathlib.Core.Path.{_≡_};
 ghost use mathlib.Core.List.{List};
-ghost use Prim.Native.Nat.{ℕ};
+ghost use mathlib.Core.Bool.{cond};
+ghost use Prim.Native.Nat.{ℕ, _≤_};
+ghost use lib.Dec.{ltb};
 ghost use lib.ListN.{length, take};
-ghost use Rattle.records.specs.Records.{lent, view, lookup, member, soundRecords};
-use crate::Code;
+ghost use Rattle.records.specs.Limits.{records};
+ghost use Rattle.records.specs.Records.{codeOf, nameIn, lent, view, lookup, member, soundRecords};
+ghost use Rattle.records.specs.Steps.{cleanRecords};
 use crate::Found;
 use crate::OwnId;
 use crate::PeerId;
 use crate::State;
 use crate::fields::among;
 use crate::fields::apart;
-use crate::fields::is_clear;
+use crate::fields::are_formed;
+use crate::fields::are_ids_clear;
+use crate::fields::are_words_clear;
+use crate::fields::code_of;
+use codes::Code;
+use codes::Name;
 
 // How many of these places are live: those below the count, as far as there are places.
 pub fn live(count: usize, ids: &[u32]) -> usize
@@ -23,19 +31,40 @@ pub fn live(count: usize, ids: &[u32]) -> usize
     ids.len()
 }
 
+// The code in place `i`; there is none behind the last.
+pub fn code_at<'a>(
+    lengths: &'a [u8; State::RECORDS],
+    highs: &'a [u64; State::RECORDS],
+    lows: &'a [u64; State::RECORDS],
+    i: usize,
+) -> Code
+    ensures { λ r. ⌜ r ≡ cond (ltb i records) (codeOf (nameIn (now (lengths .entry)) (now (highs .entry)) (now (lows .entry)) i)) (Code.Local 0) ⌝ }
+{
+    if i < State::RECORDS {
+        return code_of(Name {
+            length: lengths[i],
+            high: highs[i],
+            low: lows[i],
+        });
+    }
+    Code::Local(0)
+}
+
 fn find<'a>(
     count: usize,
     ids: &'a [u32; State::RECORDS],
-    codes: &'a [u32; State::RECORDS],
+    lengths: &'a [u8; State::RECORDS],
+    highs: &'a [u64; State::RECORDS],
+    lows: &'a [u64; State::RECORDS],
     id: u32,
 ) -> Found
-    ensures { λ r. ⌜ r ≡ lookup id (view (lent count (now (ids .entry)) (now (codes .entry)))) ⌝ }
+    ensures { λ r. ⌜ r ≡ lookup id (view (lent count (now (ids .entry)) (now (lengths .entry)) (now (highs .entry)) (now (lows .entry)))) ⌝ }
 {
     let n = live(count, ids);
     let mut i: usize = 0;
     while i < n {
         if ids[i] == id {
-            return Found::Operation(Code(codes[i]));
+            return Found::Operation(code_at(lengths, highs, lows, i));
         }
         i += 1;
     }
@@ -43,7 +72,7 @@ fn find<'a>(
 }
 
 fn holds(count: usize, ids: &[u32; State::RECORDS], id: u32) -> bool
-    ensures { λ r. ⌜ ((codes : List ℕ) → r ≡ member id (view (lent count (now (ids .entry)) codes))) ⌝ }
+    ensures { λ r. ⌜ ((lengths highs lows : List ℕ) → r ≡ member id (view (lent count (now (ids .entry)) lengths highs lows))) ⌝ }
 {
     among(live(count, ids), ids, id)
 }
@@ -52,54 +81,75 @@ fn holds(count: usize, ids: &[u32; State::RECORDS], id: u32) -> bool
 pub fn own_found<'a>(
     count: usize,
     ids: &'a [u32; State::RECORDS],
-    codes: &'a [u32; State::RECORDS],
+    lengths: &'a [u8; State::RECORDS],
+    highs: &'a [u64; State::RECORDS],
+    lows: &'a [u64; State::RECORDS],
     id: OwnId,
 ) -> Found
-    ensures { λ r. ⌜ r ≡ lookup (id .0) (view (lent count (now (ids .entry)) (now (codes .entry)))) ⌝ }
+    ensures { λ r. ⌜ r ≡ lookup (id .0) (view (lent count (now (ids .entry)) (now (lengths .entry)) (now (highs .entry)) (now (lows .entry)))) ⌝ }
 {
-    find(count, ids, codes, id.0)
+    find(count, ids, lengths, highs, lows, id.0)
 }
 
 // The operation of the invocation that this end received with the id, in the fields of the peer side.
 pub fn peer_found<'a>(
     count: usize,
     ids: &'a [u32; State::RECORDS],
-    codes: &'a [u32; State::RECORDS],
+    lengths: &'a [u8; State::RECORDS],
+    highs: &'a [u64; State::RECORDS],
+    lows: &'a [u64; State::RECORDS],
     id: PeerId,
 ) -> Found
-    ensures { λ r. ⌜ r ≡ lookup (id .0) (view (lent count (now (ids .entry)) (now (codes .entry)))) ⌝ }
+    ensures { λ r. ⌜ r ≡ lookup (id .0) (view (lent count (now (ids .entry)) (now (lengths .entry)) (now (highs .entry)) (now (lows .entry)))) ⌝ }
 {
-    find(count, ids, codes, id.0)
+    find(count, ids, lengths, highs, lows, id.0)
 }
 
 pub fn has_own(count: usize, ids: &[u32; State::RECORDS], id: OwnId) -> bool
-    ensures { λ r. ⌜ ((codes : List ℕ) → r ≡ member (id .0) (view (lent count (now (ids .entry)) codes))) ⌝ }
+    ensures { λ r. ⌜ ((lengths highs lows : List ℕ) → r ≡ member (id .0) (view (lent count (now (ids .entry)) lengths highs lows))) ⌝ }
 {
     holds(count, ids, id.0)
 }
 
 pub fn has_peer(count: usize, ids: &[u32; State::RECORDS], id: PeerId) -> bool
-    ensures { λ r. ⌜ ((codes : List ℕ) → r ≡ member (id .0) (view (lent count (now (ids .entry)) codes))) ⌝ }
+    ensures { λ r. ⌜ ((lengths highs lows : List ℕ) → r ≡ member (id .0) (view (lent count (now (ids .entry)) lengths highs lows))) ⌝ }
 {
     holds(count, ids, id.0)
+}
+
+// Whether the codes of the live records have their form and the places behind them are unused.
+fn is_clean<'a>(
+    count: usize,
+    ids: &'a [u32; State::RECORDS],
+    lengths: &'a [u8; State::RECORDS],
+    highs: &'a [u64; State::RECORDS],
+    lows: &'a [u64; State::RECORDS],
+) -> bool
+    requires { ⌜ count ≤ records ⌝ }
+    ensures { λ r. ⌜ r ≡ cleanRecords (lent count (now (ids .entry)) (now (lengths .entry)) (now (highs .entry)) (now (lows .entry))) ⌝ }
+{
+    are_formed(count, lengths, highs, lows)
+        & (are_ids_clear(count, ids, lengths) & are_words_clear(count, highs, lows))
 }
 
 // Whether a side is sound; fewer than two records have no pair to search.
 pub fn sound<'a>(
     count: usize,
     ids: &'a [u32; State::RECORDS],
-    codes: &'a [u32; State::RECORDS],
+    lengths: &'a [u8; State::RECORDS],
+    highs: &'a [u64; State::RECORDS],
+    lows: &'a [u64; State::RECORDS],
 ) -> bool
-    ensures { λ r. ⌜ r ≡ soundRecords (lent count (now (ids .entry)) (now (codes .entry))) ⌝ }
+    ensures { λ r. ⌜ r ≡ soundRecords (lent count (now (ids .entry)) (now (lengths .entry)) (now (highs .entry)) (now (lows .entry))) ⌝ }
 {
     if State::RECORDS < count {
         return false;
     }
     if count < 2 {
-        return is_clear(count, ids, codes);
+        return is_clean(count, ids, lengths, highs, lows);
     }
     if apart(count, ids) {
-        return is_clear(count, ids, codes);
+        return is_clean(count, ids, lengths, highs, lows);
     }
     false
 }

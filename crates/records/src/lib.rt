@@ -1,11 +1,13 @@
-// The records of one side, the invocations that are live: document 01, 'Records'. Both sides together are the state, in sides.rt.
+// The records of one side, the invocations that are live: document 01, 'Records'; document 02, Five. Both sides together are the state, in sides.rt.
 mod fields;
 pub mod lent;
 mod sides;
 
 ghost use mathlib.Core.Path.{_≡_};
 ghost use mathlib.Core.List.{[]};
-ghost use Rattle.records.specs.Records.{sameCode, pack, added, retired};
+ghost use Rattle.records.specs.Records.{pack, added, retired};
+use codes::Code;
+use fields::stored;
 use lent::live;
 
 // The id of an invocation that this end made: the two's complement bits of a signed 32-bit number.
@@ -14,19 +16,19 @@ pub struct OwnId(pub u32);
 // The id of an invocation that this end received, as bits too.
 pub struct PeerId(pub u32);
 
-// The code of an operation or of an error, as bits too.
-pub struct Code(pub u32);
-
 pub struct Record {
     pub id: u32,
     pub code: Code,
 }
 
-// An array for each field of a record, so that what only reads is lent the fields that it reads. Places from `count` on are unused.
+// An array for each field of a record, so that what only reads is lent the fields that it reads: the id, and the length and the two words of a name; a
+// local code has length 0 and stands in the first four octets of the words. Places from `count` on are unused.
 pub struct Records {
     pub count: usize,
     pub ids: [u32; State::RECORDS],
-    pub codes: [u32; State::RECORDS],
+    pub lengths: [u8; State::RECORDS],
+    pub highs: [u64; State::RECORDS],
+    pub lows: [u64; State::RECORDS],
 }
 
 pub struct State {
@@ -45,14 +47,6 @@ pub struct Looked {
     pub found: Found,
 }
 
-impl Code {
-    pub fn same(self, other: Code) -> bool
-        ensures { λ r. ⌜ r ≡ sameCode self other ⌝ }
-    {
-        self.0 == other.0
-    }
-}
-
 impl Records {
     fn fresh() -> Self
         ensures { λ r. ⌜ r ≡ pack [] ⌝ }
@@ -60,7 +54,9 @@ impl Records {
         Records {
             count: 0,
             ids: [0; State::RECORDS],
-            codes: [0; State::RECORDS],
+            lengths: [0; State::RECORDS],
+            highs: [0; State::RECORDS],
+            lows: [0; State::RECORDS],
         }
     }
 
@@ -70,14 +66,22 @@ impl Records {
     {
         let n = self.count;
         if n < State::RECORDS {
+            let code = new.code;
+            let name = stored(code);
             let mut ids = self.ids;
-            let mut codes = self.codes;
+            let mut lengths = self.lengths;
+            let mut highs = self.highs;
+            let mut lows = self.lows;
             ids[n] = new.id;
-            codes[n] = new.code.0;
+            lengths[n] = name.length;
+            highs[n] = name.high;
+            lows[n] = name.low;
             return Records {
                 count: n + 1,
                 ids,
-                codes,
+                lengths,
+                highs,
+                lows,
             };
         }
         self
@@ -89,14 +93,18 @@ impl Records {
     {
         let n = live(self.count, &self.ids);
         let mut ids = [0; State::RECORDS];
-        let mut codes = [0; State::RECORDS];
+        let mut lengths = [0; State::RECORDS];
+        let mut highs = [0; State::RECORDS];
+        let mut lows = [0; State::RECORDS];
         let mut kept: usize = 0;
         let mut i: usize = 0;
         while i < n {
             let x = self.ids[i];
             if x != id {
                 ids[kept] = x;
-                codes[kept] = self.codes[i];
+                lengths[kept] = self.lengths[i];
+                highs[kept] = self.highs[i];
+                lows[kept] = self.lows[i];
                 kept += 1;
             }
             i += 1;
@@ -104,7 +112,9 @@ impl Records {
         Records {
             count: kept,
             ids,
-            codes,
+            lengths,
+            highs,
+            lows,
         }
     }
 }

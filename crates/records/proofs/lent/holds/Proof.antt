@@ -1,10 +1,10 @@
 -- The ids below the count are those of the live records.
-use borrow.Author.Needs.{needs}
 use native.Mathlib.Omega.{arith}
 use mathlib.Core.Path.{sym, _∙_}
 use lib.ListN.{length-take}
 use Rattle.records.proofs.Rows.{member-ids}
 use Rattle.records.proofs.Numbers.{take-live}
+use borrow.Author.Needs.{needs}
 use Rattle.records.proofs.lent.holds.Statement.{statement}
 use Rattle.records.proofs.lent.holds.Tie as tie
 
@@ -14,9 +14,11 @@ among-requires c κs =
     omega (arith, live .live .ensures, length-take (b .count) (b .ids .now))
 
 returns : tie.Need-returns
-returns c = λ codes.
+returns c = λ lengths highs lows.
     let live = c .before .before in let b = live .before .before .args in
-    c .among .ensures ∙ rw (live .live .ensures, take-live (b .count) (b .ids .now)) (sym (member-ids (b .id) (b .count) (b .ids .now) codes))
+    c .among .ensures ∙ rw (live .live .ensures, take-live (b .count) (b .ids .now)) (sym (member-ids (b .id) (b .count) (b .ids .now) lengths highs lows))
 
 pub holds-spec : {M : Type 1} → statement M
-holds-spec = tie.close (tie.spec (λ c κs. search needs) among-requires returns)
+holds-spec =
+    tie.close
+    (tie.spec (λ c κs. search needs) among-requires returns)

@@ -13,18 +13,18 @@ returns c = simp (lt-leb _ _ (c .if1 .taken))
 
 returns-2 : tie.Need-returns-2
 returns-2 c =
-    let few = c .before .before .before in let if1 = few .before in let b = if1 .before .args in
-    simp (le-leb _ _ (if1 .if1 .left), few-once (lent (b .count) (b .ids .now) (b .codes .now)) (few .if2 .taken), c .is-clear .ensures)
+    let few = c .before in let if1 = few .before in let b = if1 .before .args in
+    simp (le-leb _ _ (if1 .if1 .left), few-once (lent (b .count) (b .ids .now) (b .lengths .now) (b .highs .now) (b .lows .now)) (few .if2 .taken), c .is-clean .ensures)
 
 returns-3 : tie.Need-returns-3
 returns-3 c =
-    let if3 = c .before .before .before in let apart = if3 .before in let if1 = apart .before .before .before in let b = if1 .before .args in
-    simp (le-leb _ _ (if1 .if1 .left), distinct-ids (b .count) (b .ids .now) (b .codes .now) ∙ sym (apart .apart .ensures) ∙ if3 .if3 .taken, c .is-clear2 .ensures)
+    let if3 = c .before in let apart = if3 .before in let if1 = apart .before .before .before in let b = if1 .before .args in
+    simp (le-leb _ _ (if1 .if1 .left), distinct-ids (b .count) (b .ids .now) (b .lengths .now) (b .highs .now) (b .lows .now) ∙ sym (apart .apart .ensures) ∙ if3 .if3 .taken, c .is-clean2 .ensures)
 
 returns-4 : tie.Need-returns-4
 returns-4 c =
     let apart = c .before in let if1 = apart .before .before .before in let b = if1 .before .args in
-    simp (le-leb _ _ (if1 .if1 .left), distinct-ids (b .count) (b .ids .now) (b .codes .now) ∙ sym (apart .apart .ensures) ∙ c .if3 .left)
+    simp (le-leb _ _ (if1 .if1 .left), distinct-ids (b .count) (b .ids .now) (b .lengths .now) (b .highs .now) (b .lows .now) ∙ sym (apart .apart .ensures) ∙ c .if3 .left)
 
 pub sound-spec : {M : Type 1} → statement M
 sound-spec =
