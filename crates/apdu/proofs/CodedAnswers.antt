@@ -25,7 +25,7 @@ use Rattle.apdu.specs.declared.CodeField.{CodeField}
 use Rattle.ber.specs.declared.element.Frame.{Frame}
 use Rattle.ber.specs.declared.element.Frame.the-variants.{Of as FrameOf, NoFrame}
 use Rattle.apdu.specs.Field.{Part, partOf, Field, fields}
-use Rattle.apdu.specs.Parse.{Apdu, mistyped, numberOf, numberUnder, isCode, codeOf, Coded, uncoded, coded, codedWith, codedOf, unlinked, linked, linkedWith, linkedOf, invokeWith, invokeBehind}
+use Rattle.apdu.specs.Parse.{Apdu, mistyped, numberOf, numberUnder, isCode, localCode, codeOf, Coded, uncoded, coded, codedWith, codedOf, unlinked, linked, linkedWith, linkedOf, invokeWith, invokeBehind}
 use Rattle.apdu.specs.Steps.{fieldAt, guarded, isNumber, codedIn, invokeIn, behindNumber}
 use Rattle.apdu.proofs.FieldLaws.{fields-none}
 use Rattle.apdu.proofs.FieldHead.{Head, fields-head}
@@ -43,6 +43,11 @@ number-shortest t identifier c w =
     inner e =
         cond-elim (λ (i : Integer). numberOf i ≡ Of w → (identifier ≡ t) × (shortest c ≡ true)) (leb (length c) 4 && shortest c) _ NoInteger
         (λ q _. (e, and-right (leb (length c) 4) _ q)) (λ _ x. let z : _≡_ {A = ℕ} 0 1 = cc in absurd (omega arith))
+
+-- what is no 06 is by its number a code
+pub code-by-number : (id : ℕ) (c : List ℕ) (n k : Number) → n ≡ numberUnder 0x02 id c → n ≡ k → (id ≡ 0x06 → ⊥) → localCode k ≡ codeOf id c
+unfolding codeOf
+code-by-number id c n k e f h = ap localCode (sym f ∙ e) ∙ rw (ne-eqb id 0x06 h) refl
 
 module _ (d : ℕ) (s : List ℕ) (at end : ℕ) (r : Frame) (q : r ≡ fieldAt s at end) (id a n : ℕ) (w : r ≡ FrameOf id a n) (l : 1 ≤ d) where
   -- a field that is a right integer is an element
@@ -118,11 +123,11 @@ module _ (d : ℕ) (s : List ℕ) (at end : ℕ) (r : Frame) (q : r ≡ fieldAt 
       pub coded-wrong : t ≡ false → uncoded ≡ codedIn d (partOf s at end)
       coded-wrong b = right-not d s at end r q id a n w l m c x y t u z g b uncoded codedOf
 
-      pub coded-behind : isCode id ≡ true → t ≡ true → (k : CodeField) → k ≡ codeOf m → guarded d uncoded (codedWith k) (partOf s n end) ≡ codedIn d (partOf s at end)
+      pub coded-behind : isCode id ≡ true → t ≡ true → (k : CodeField) → k ≡ codeOf id c → guarded d uncoded (codedWith k) (partOf s n end) ≡ codedIn d (partOf s at end)
       unfolding codedOf
       coded-behind e b k h =
           ap (λ (o : Coded). cond (contentsOf d (part s n end)) o uncoded)
-          (ap (λ (j : CodeField). codedWith j (fields d (partOf s n end))) (h ∙ ap codeOf (field-number d s at end r q id a n w l m c x y t u z g)) ∙ cond-true _ uncoded e)
+          (ap (λ (j : CodeField). codedWith j (fields d (partOf s n end))) (h ∙ ap (codeOf id) x) ∙ cond-true _ uncoded e)
           ∙ right-passed d s at end r q id a n w l m c x y t u z g b uncoded codedOf
 
 -- ---- an optional linked id: an Invoke behind its id

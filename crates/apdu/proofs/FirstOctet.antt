@@ -10,7 +10,7 @@ use lib.ListN.{getD}
 use lib.Dec.{eqb, leb}
 use borrow.Author.Tests.{eqb-true, eqb-false, leb-true}
 use Rattle.base.proofs.Tests.{cond-elim, and-left, and-right}
-use Rattle.records.specs.declared.Code.{Code}
+use Rattle.codes.specs.declared.Code.{Code}
 use Rattle.records.specs.Limits.{levels}
 use Rattle.ber.specs.declared.element.Frame.{Frame}
 use Rattle.ber.specs.declared.element.Frame.the-variants.{Of as FrameOf, NoFrame}

@@ -59,7 +59,7 @@ module _ (x : List ℕ) where
   coded-of : (fs : List Field) → AllStand x fs → CodedStands (codedOf fs)
   unfolding codedOf
   coded-of [] w = tt
-  coded-of (f ∷ fs) w = cond-elim CodedStands (isCode (f .identifier)) (codedWith (codeOf (idOf f)) fs) uncoded (λ _. coded-with (codeOf (idOf f)) fs (w .2)) (λ _. tt)
+  coded-of (f ∷ fs) w = cond-elim CodedStands (isCode (f .identifier)) (codedWith (codeOf (f .identifier) (f .contents .octets)) fs) uncoded (λ _. coded-with (codeOf (f .identifier) (f .contents .octets)) fs (w .2)) (λ _. tt)
 
   linked-with : (n : Number) (fs : List Field) → AllStand x fs → LinkedStands (linkedWith n fs)
   unfolding linkedWith

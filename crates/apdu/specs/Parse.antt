@@ -1,10 +1,12 @@
--- What a received APDU says: document 01, 'The four APDUs' and step 1 of 'Receiving'.
+-- What a received APDU says: document 01, 'The four APDUs' and step 1 of 'Receiving'; document 02, Five.
 use Prim.Native.Nat.{ℕ, _-_}
 use mathlib.Core.Bool.{Bool, true, cond, _&&_, _||_}
 use mathlib.Core.List.{List, [], _∷_}
 use mathlib.Core.Option.{Option, some, none}
 use lib.ListN.{length, getD}
 use lib.Dec.{eqb, leb}
+use Rattle.codes.specs.declared.Code.the-variants.{Local, Global}
+use Rattle.codes.specs.Code.{nameOf}
 use Rattle.records.specs.Limits.{levels}
 use Rattle.ber.specs.declared.element.Frame.{Frame}
 use Rattle.ber.specs.declared.element.Frame.the-variants.{Of as FrameOf, NoFrame}
@@ -15,7 +17,7 @@ use Rattle.ber.specs.Element.{wellFormed, place, frameOf}
 use Rattle.apdu.specs.declared.Number.{Number}
 use Rattle.apdu.specs.declared.Number.the-variants.{Of, Absent}
 use Rattle.apdu.specs.declared.CodeField.{CodeField}
-use Rattle.apdu.specs.declared.CodeField.the-variants.{Local, Other}
+use Rattle.apdu.specs.declared.CodeField.the-variants.{Is, Other}
 use Rattle.apdu.specs.Field.{Part, partOf, Field, fields}
 
 -- a code and its value, the whole element
@@ -64,10 +66,18 @@ idOf f = numberUnder 0x02 (f .identifier) (f .contents .octets)
 unfoldable pub isCode : ℕ → Bool
 isCode identifier = eqb identifier 0x02 || eqb identifier 0x06
 
--- a 06, or an 02 over four octets, equals no table code
-unfoldable pub codeOf : Number → CodeField
-codeOf (Of w) = Local (record { 0 = w })
-codeOf Absent = Other
+-- an 02 of 1 to 4 octets is a local code
+unfoldable pub localCode : Number → CodeField
+localCode (Of w) = Is (Local w)
+localCode Absent = Other
+
+-- a 06 of at most 16 octets is a name
+unfoldable pub nameCode : List ℕ → CodeField
+nameCode c = cond (leb (length c) 16) (Is (Global (nameOf c))) Other
+
+-- a longer 02 or 06 equals no table code
+unfoldable pub codeOf : ℕ → List ℕ → CodeField
+codeOf identifier c = cond (eqb identifier 0x06) (nameCode c) (localCode (numberUnder 0x02 identifier c))
 
 -- a code and at most one value, or not
 pub data Coded : Type 0 where
@@ -82,7 +92,7 @@ codedWith c (v ∷ w ∷ fs) = uncoded
 
 unfoldable pub codedOf : List Field → Coded
 codedOf [] = uncoded
-codedOf (f ∷ fs) = cond (isCode (f .identifier)) (codedWith (codeOf (idOf f)) fs) uncoded
+codedOf (f ∷ fs) = cond (isCode (f .identifier)) (codedWith (codeOf (f .identifier) (f .contents .octets)) fs) uncoded
 
 -- an optional linked id and what follows it, or not
 pub data Linked : Type 0 where

@@ -4,7 +4,7 @@ mod field;
 pub mod parse;
 mod reject;
 
-use records::Code;
+use codes::Code;
 use records::OwnId;
 use records::PeerId;
 
@@ -26,9 +26,9 @@ pub enum PeerLink {
     Absent,
 }
 
-// A received code. Other: a 06, or an 02 over four octets, which equals no table code.
+// A received code. Other: an 02 over four octets or a 06 over 16, which equals no table code.
 pub enum CodeField {
-    Local(Code),
+    Is(Code),
     Other,
 }
 
