@@ -1,9 +1,12 @@
 pub mod ListLaws
+pub mod SearchLaws
 pub mod TableLaws
+pub mod NameLaws
 mod LayoutLaws
 mod WalkLaws
 mod FaultLaws
 mod ReadAnswers
+mod LayoutAnswers
 mod ValidityAnswers
 mod ExtensionAnswers
 mod ExtensionLaws

@@ -7,14 +7,14 @@ use mathlib.Core.List.{List}
 use borrow.Author.Tests.{eqb-true, eq-eqb, leb-true, le-leb}
 use lib.Dec.{eqb, leb}
 use Rattle.base.proofs.Tests.{and-left, and-right, and-true, both-ways}
-use Rattle.records.specs.declared.Code.{Code}
+use Rattle.codes.specs.declared.Code.{Code}
 use Rattle.optable.specs.declared.Part.{Part}
 use Rattle.optable.specs.declared.Part.the-variants.{Operations, ChildPairs}
 use Rattle.codes.specs.declared.Place.{Place}
 use Rattle.codes.specs.declared.Place.the-variants.{At, Nowhere}
 use Rattle.base.specs.Count.{any}
 use Rattle.optable.specs.Read.{sizeOf, count, start, entryStart, hasCode, firstAt, secondAt, secondPart}
-use Rattle.optable.specs.Validity.{coded, valid}
+use Rattle.optable.specs.Validity.{pairs, valid}
 use Rattle.optable.specs.Lookup.{joins, joined, parentAt, hasChild, PlaceOf, PairAnswer}
 use Rattle.optable.specs.Steps.{pairWithin}
 use Rattle.base.proofs.CountLaws.{any-here, any-where}
@@ -64,7 +64,7 @@ pair-answer t d r f g = record { in-valid = λ v. both-ways r d f (g v); in-any 
 
 -- ---- pairs by the indexes found
 
-module _ (t : List ℕ) (k : Part) (w : coded k ≡ false) (c d : Code) (p : Place) (f : PlaceOf t Operations c p) where
+module _ (t : List ℕ) (k : Part) (w : pairs k ≡ true) (c d : Code) (p : Place) (f : PlaceOf t Operations c p) where
   -- in a valid table a pair's first index is where its operation was found
   first-index : valid t ≡ true → (i : ℕ) → i < count t k → hasCode t Operations c (firstAt t k i) ≡ true → p ≡ At (firstAt t k i)
   first-index v i l h = place-is t Operations c v refl p f (firstAt t k i) (pair-first t v k w i l) h

@@ -2,57 +2,23 @@
 use Prim.Native.Nat.{ℕ, _-_, _%_, _≤_, _<_}
 use native.Mathlib.Omega.{arith}
 use mathlib.Core.Path.{_≡_, _∙_}
-use mathlib.Core.Bool.{Bool, true, false, not}
+use mathlib.Core.Bool.{Bool, true, false, not, _||_}
 use mathlib.Core.List.{List}
 use borrow.Author.Tests.{eq-eqb, ne-eqb, lt-ltb, le-ltb, le-leb, lt-leb}
-use lib.ListN.{length}
 use lib.Dec.{eqb, ltb}
 use Rattle.base.proofs.Tests.{cond-true, cond-false}
+use Rattle.codes.specs.declared.Key.{Key}
+use Rattle.codes.specs.declared.Form.{Form}
+use Rattle.codes.specs.Code.{isRight}
+use Rattle.optable.specs.declared.Edition.{Edition}
 use Rattle.optable.specs.declared.Part.{Part}
-use Rattle.optable.specs.declared.Part.the-variants.{Operations, Errors, ErrorPairs, ChildPairs}
+use Rattle.optable.specs.declared.Part.the-variants.{Operations, ErrorPairs, ChildPairs}
 use Rattle.optable.specs.declared.Rule.{Rule}
 use Rattle.optable.specs.declared.Breach.{Breach}
-use Rattle.optable.specs.declared.Breach.the-variants.{Unbroken, Class, Flags, ArgumentFlag, ArgumentType, ResultFlag, ResultType, ResultUnexpected, ParameterFlag, ParameterType, FirstIndex, SecondIndex, PairClass, Order}
-use Rattle.optable.specs.declared.Fault.the-variants.{Nothing, Header, Offset, Length}
-use Rattle.optable.specs.Read.{count, start, classAt, firstAt, secondAt, secondPart}
-use Rattle.optable.specs.Validity.{behind, ruleRight, resultRight, allowed, pairBelow, above, rises, fieldsRight}
-use Rattle.optable.specs.Fault.{ruleBreach, operationBreach, errorBreach, pairBreach, fieldsBreach, entryBreach, layoutFault}
-
--- ---- the header
-
-module _ (t : List ℕ) where
-  pub no-header : length t < 16 → Header ≡ layoutFault t
-  unfolding layoutFault
-  no-header h = simp (lt-leb _ _ h)
-
-  module _ (h : 16 ≤ length t) where
-    pub operations-misplaced : (start t Operations ≡ 16 → ⊥) → Offset Operations ≡ layoutFault t
-    unfolding layoutFault
-    operations-misplaced a = simp (le-leb _ _ h, ne-eqb _ _ a)
-
-    module _ (a : start t Operations ≡ 16) where
-      pub errors-misplaced : (start t Errors ≡ behind t Operations → ⊥) → Offset Errors ≡ layoutFault t
-      unfolding layoutFault
-      errors-misplaced b = simp (le-leb _ _ h, eq-eqb _ _ a, ne-eqb _ _ b)
-
-      module _ (b : start t Errors ≡ behind t Operations) where
-        pub error-pairs-misplaced : (start t ErrorPairs ≡ behind t Errors → ⊥) → Offset ErrorPairs ≡ layoutFault t
-        unfolding layoutFault
-        error-pairs-misplaced c = simp (le-leb _ _ h, eq-eqb _ _ a, eq-eqb _ _ b, ne-eqb _ _ c)
-
-        module _ (c : start t ErrorPairs ≡ behind t Errors) where
-          pub child-pairs-misplaced : (start t ChildPairs ≡ behind t ErrorPairs → ⊥) → Offset ChildPairs ≡ layoutFault t
-          unfolding layoutFault
-          child-pairs-misplaced d = simp (le-leb _ _ h, eq-eqb _ _ a, eq-eqb _ _ b, eq-eqb _ _ c, ne-eqb _ _ d)
-
-          module _ (d : start t ChildPairs ≡ behind t ErrorPairs) where
-            pub length-wrong : (length t ≡ behind t ChildPairs → ⊥) → Length ≡ layoutFault t
-            unfolding layoutFault
-            length-wrong e = simp (le-leb _ _ h, eq-eqb _ _ a, eq-eqb _ _ b, eq-eqb _ _ c, eq-eqb _ _ d, ne-eqb _ _ e)
-
-            pub layout-right : length t ≡ behind t ChildPairs → Nothing ≡ layoutFault t
-            unfolding layoutFault
-            layout-right e = simp (le-leb _ _ h, eq-eqb _ _ a, eq-eqb _ _ b, eq-eqb _ _ c, eq-eqb _ _ d, eq-eqb _ _ e)
+use Rattle.optable.specs.declared.Breach.the-variants.{Unbroken, Class, Flags, ArgumentFlag, ArgumentType, ResultFlag, ResultType, ResultUnexpected, ParameterFlag, ParameterType, NameIndex, FirstIndex, SecondIndex, PairClass, NameForm}
+use Rattle.optable.specs.Read.{count, classAt, firstAt, secondAt, secondPart}
+use Rattle.optable.specs.Validity.{ruleRight, resultRight, operationFlags, errorFlags, allowed, pairBelow, above, rises, fieldsRight, standsRight}
+use Rattle.optable.specs.Fault.{needs, ruleBreach, operationBreach, errorBreach, formBreach, pairBreach, fieldsBreach, standBreach, entryBreach}
 
 -- ---- fields
 
@@ -84,52 +50,74 @@ module _ (c : ℕ) (r : Rule) where
   unfolding resultRight
   other-class-right h g = simp (ne-eqb c 3 h, ne-eqb c 5 g)
 
-module _ (c f : ℕ) (a r : Rule) where
-  pub class-low : c < 1 → Class ≡ operationBreach c f a r
+module _ (e : Edition) (c f : ℕ) (a r : Rule) where
+  pub class-low : c < 1 → Class ≡ operationBreach e c f a r
   unfolding operationBreach
   class-low h1 = simp (lt-leb _ _ h1)
 
   module _ (h1 : 1 ≤ c) where
-    pub class-high : 5 < c → Class ≡ operationBreach c f a r
+    pub class-high : 5 < c → Class ≡ operationBreach e c f a r
     unfolding operationBreach
     class-high h2 = simp (le-leb _ _ h1, lt-leb _ _ h2)
 
     module _ (h2 : c ≤ 5) where
-      pub flags-high : 3 < f → Flags ≡ operationBreach c f a r
+      pub flags-high : operationFlags e < f → Flags ≡ operationBreach e c f a r
       unfolding operationBreach
       flags-high h3 = simp (le-leb _ _ h1, le-leb _ _ h2, lt-leb _ _ h3)
 
-      module _ (h3 : f ≤ 3) where
-        pub argument-wrong : {b : Breach} → ruleRight a ≡ false → b ≡ ruleBreach a ArgumentFlag ArgumentType → b ≡ operationBreach c f a r
+      module _ (h3 : f ≤ operationFlags e) where
+        pub argument-wrong : {b : Breach} → ruleRight a ≡ false → b ≡ ruleBreach a ArgumentFlag ArgumentType → b ≡ operationBreach e c f a r
         unfolding operationBreach
-        argument-wrong {b} h4 e = e ∙ simp (le-leb _ _ h1, le-leb _ _ h2, le-leb _ _ h3, h4)
+        argument-wrong {b} h4 g = g ∙ simp (le-leb _ _ h1, le-leb _ _ h2, le-leb _ _ h3, h4)
 
         module _ (h4 : ruleRight a ≡ true) where
-          pub result-wrong : {b : Breach} → ruleRight r ≡ false → b ≡ ruleBreach r ResultFlag ResultType → b ≡ operationBreach c f a r
+          pub result-wrong : {b : Breach} → ruleRight r ≡ false → b ≡ ruleBreach r ResultFlag ResultType → b ≡ operationBreach e c f a r
           unfolding operationBreach
-          result-wrong {b} h5 e = e ∙ simp (le-leb _ _ h1, le-leb _ _ h2, le-leb _ _ h3, h4, h5)
+          result-wrong {b} h5 g = g ∙ simp (le-leb _ _ h1, le-leb _ _ h2, le-leb _ _ h3, h4, h5)
 
           module _ (h5 : ruleRight r ≡ true) where
-            pub result-unexpected : resultRight c r ≡ false → ResultUnexpected ≡ operationBreach c f a r
+            pub result-unexpected : resultRight c r ≡ false → ResultUnexpected ≡ operationBreach e c f a r
             unfolding operationBreach
             result-unexpected h6 = simp (le-leb _ _ h1, le-leb _ _ h2, le-leb _ _ h3, h4, h5, h6)
 
-            pub operation-unbroken : resultRight c r ≡ true → Unbroken ≡ operationBreach c f a r
+            pub operation-unbroken : resultRight c r ≡ true → Unbroken ≡ operationBreach e c f a r
             unfolding operationBreach
             operation-unbroken h6 = simp (le-leb _ _ h1, le-leb _ _ h2, le-leb _ _ h3, h4, h5, h6)
 
-module _ (f : ℕ) (r : Rule) where
-  pub error-flag-high : 1 < f → Flags ≡ errorBreach f r
+module _ (e : Edition) (f : ℕ) (r : Rule) where
+  pub error-flag-high : errorFlags e < f → Flags ≡ errorBreach e f r
   unfolding errorBreach
   error-flag-high h = simp (lt-leb _ _ h)
 
-  pub parameter-wrong : {b : Breach} → f ≤ 1 → ruleRight r ≡ false → b ≡ ruleBreach r ParameterFlag ParameterType → b ≡ errorBreach f r
-  unfolding errorBreach
-  parameter-wrong {b} h g e = e ∙ simp (le-leb _ _ h, g)
+  module _ (h : f ≤ errorFlags e) where
+    pub parameter-wrong : {b : Breach} → ruleRight r ≡ false → b ≡ ruleBreach r ParameterFlag ParameterType → b ≡ errorBreach e f r
+    unfolding errorBreach
+    parameter-wrong {b} g k = k ∙ simp (le-leb _ _ h, g)
 
-  pub error-unbroken : f ≤ 1 → ruleRight r ≡ true → Unbroken ≡ errorBreach f r
-  unfolding errorBreach
-  error-unbroken h g = simp (le-leb _ _ h, g)
+    pub error-unbroken : ruleRight r ≡ true → Unbroken ≡ errorBreach e f r
+    unfolding errorBreach
+    error-unbroken g = simp (le-leb _ _ h, g)
+
+-- ---- codes and names
+
+module _ (s : Key) (n : ℕ) where
+  pub index-missing : s .named ≡ true → n ≤ s .number → NameIndex ≡ needs (not (s .named) || ltb (s .number) n) NameIndex Unbroken
+  index-missing e h = simp (e, le-ltb _ _ h)
+
+  pub index-there : s .named ≡ true → s .number < n → Unbroken ≡ needs (not (s .named) || ltb (s .number) n) NameIndex Unbroken
+  index-there e h = simp (e, lt-ltb _ _ h)
+
+  pub local-unbroken : s .named ≡ false → Unbroken ≡ needs (not (s .named) || ltb (s .number) n) NameIndex Unbroken
+  local-unbroken e = simp e
+
+module _ (f : Form) where
+  pub form-unbroken : isRight f ≡ true → Unbroken ≡ formBreach f
+  unfolding formBreach
+  form-unbroken e = simp e
+
+  pub form-broken : isRight f ≡ false → NameForm f ≡ formBreach f
+  unfolding formBreach
+  form-broken e = simp e
 
 -- ---- pairs
 
@@ -200,10 +188,10 @@ module _ (t : List ℕ) (k : Part) where
   unfolding entryBreach
   fields-broken i {b} e f = f ∙ simp e
 
-  pub order-broken : (i : ℕ) → fieldsRight t k i ≡ true → rises t k i ≡ false → Order ≡ entryBreach t k i
+  pub stand-broken : (i : ℕ) {b : Breach} → fieldsRight t k i ≡ true → standsRight t k i ≡ false → b ≡ standBreach k → b ≡ entryBreach t k i
   unfolding entryBreach
-  order-broken i e f = simp (e, f)
+  stand-broken i {b} e f g = g ∙ simp (e, f)
 
-  pub entry-unbroken : (i : ℕ) → fieldsRight t k i ≡ true → rises t k i ≡ true → Unbroken ≡ entryBreach t k i
+  pub entry-unbroken : (i : ℕ) → fieldsRight t k i ≡ true → standsRight t k i ≡ true → Unbroken ≡ entryBreach t k i
   unfolding entryBreach
   entry-unbroken i e f = simp (e, f)

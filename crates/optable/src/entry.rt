@@ -3,6 +3,7 @@ ghost use mathlib.Core.Path.{_≡_};
 ghost use mathlib.Core.Bool.{true};
 ghost use lib.ListN.{length};
 ghost use Prim.Native.Nat.{_+_, _-_, _≤_, _<_};
+ghost use Rattle.base.specs.Octets.{u16};
 ghost use Rattle.codes.specs.Search.{keyHere, sizeOf as entrySize};
 ghost use Rattle.optable.specs.Validity.{laidOut, above, rises, newName, standsRight};
 ghost use Rattle.optable.specs.Read.{edition, headerOf, hasPart, count, start, sizeOf, nameAt, classAt};
@@ -86,22 +87,24 @@ fn pair_breach(table: &[u8], part: Part, reached: Reached, counts: Counts) -> Br
 // How a code stands in an entry that the table has.
 fn key_within(table: &[u8], kind: Kind, at: usize) -> Key
     requires { ⌜ at + entrySize kind ≤ length (now table) ⌝ }
-    ensures { λ r. ⌜ r ≡ keyHere (now (table .entry)) kind at ⌝ }
+    ensures { λ r. ⌜ (r ≡ keyHere (now (table .entry)) kind at) × (u16 (now (table .entry)) (at + 2) < 65536) ⌝ }
 {
-    let flags = match kind {
-        Kind::Operation => table[at + 7],
-        Kind::Error => table[at + 5],
-    };
-    Key {
-        named: kind.is_named(flags),
-        number: four_within(table, at),
+    match kind {
+        Kind::Operation => Key {
+            named: kind.is_named(table[at + 7]),
+            number: four_within(table, at),
+        },
+        Kind::Error => Key {
+            named: kind.is_named(table[at + 5]),
+            number: four_within(table, at),
+        },
     }
 }
 
 // A number that rises with the entries: the rank of a code, a pair as one number of four octets.
 fn order_within(table: &[u8], part: Part, at: usize) -> u64
     requires { ⌜ at + sizeOf part ≤ length (now table) ⌝ }
-    ensures { λ r. ⌜ r ≡ orderHere (now (table .entry)) part at ⌝ }
+    ensures { λ r. ⌜ (r ≡ orderHere (now (table .entry)) part at) × (u16 (now (table .entry)) (at + 2) < 65536) ⌝ }
 {
     match part {
         Part::Operations => key_within(table, Kind::Operation, at).rank(),

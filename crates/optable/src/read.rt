@@ -1,5 +1,6 @@
 // What a table's octets say, an octet behind the end being 0.
 ghost use mathlib.Core.Path.{_≡_};
+ghost use mathlib.Core.Bool.{true};
 ghost use Prim.Native.Nat.{_+_, _<_, _≤_};
 ghost use lib.ListN.{length};
 ghost use Rattle.base.specs.Octets.{u16, u32, u64};

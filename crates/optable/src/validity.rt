@@ -75,10 +75,11 @@ pub(crate) fn layout_fault(table: &[u8]) -> Fault
         return Fault::UnknownEdition;
     }
     let e = edition(table);
-    if table.len() < header_of(e) {
+    let header = header_of(e);
+    if table.len() < header {
         return Fault::Header;
     }
-    if (start_within(table, e, Part::Operations) as usize) != header_of(e) {
+    if (start_within(table, e, Part::Operations) as usize) != header {
         return Fault::Offset(Part::Operations);
     }
     if (start_within(table, e, Part::Errors) as usize) != behind(table, e, Part::Operations) {

@@ -12,24 +12,26 @@ use Rattle.records.specs.declared.State.{State}
 use Rattle.records.specs.Records.{member}
 use Rattle.records.specs.State.{retireOwn, retirePeer}
 use Rattle.records.proofs.Soundness.{view-retired}
+use Rattle.optable.specs.Validity.{valid}
+use Rattle.optable.proofs.NameLaws.{listed-code-right}
 use Rattle.apdu.specs.declared.Number.the-variants.{Of, Absent}
 use Rattle.apdu.specs.Parse.{Apdu, badlyStructured, unrecognized, mistyped, parse, invoke as Invoke, result as Result, error as Error, reject as Reject}
 use Rattle.base.specs.Lists.{nonEmpty}
 use Rattle.apdu.specs.Encode.{encodeInvoke, encodeError, encodeReject}
 use Rattle.apdu.proofs.FirstOctet.{first-invoke, first-reject}
-use Rattle.apdu.proofs.FieldRoundTrip.{lastPart, last-octets}
+use Rattle.apdu.proofs.FieldRoundTrip.{lastPart, last-octets, CodeFits}
 use Rattle.apdu.proofs.RoundTrip.{parse-result, parse-error}
 use Rattle.protocol.specs.Call.{own, peer, Call, receive, invoke, result, error, reject, forget, Answer, accepted}
 use Rattle.protocol.specs.Check.{Check, answer, codeIn, isSilent, peerRecords, inApdu, inBody}
 use Rattle.protocol.specs.Receive.{fieldCode, fault, invokeChecks, resultChecks, errorChecks, receiveApdu}
 use Rattle.protocol.specs.Perform.{checks, done, resultApdu}
 use Rattle.protocol.specs.Book.{lastCode, kiosk, controller, at, aResult, anError, Given, wired, Answered, World, hearingOf, wiring, after}
-use Rattle.protocol.specs.Demand3.{Small, InRange, Carried}
+use Rattle.protocol.specs.Demand3.{InRange, Carried}
 use Rattle.protocol.proofs.Checks.{Pass, settle}
-use Rattle.protocol.proofs.Facts.{result-facts, error-facts, arrived-invoke}
+use Rattle.protocol.proofs.Facts.{result-facts, error-facts, arrived-invoke, table-valid, erred-right, operation-listed}
 use Rattle.protocol.proofs.Ids.{in-code, in-last, in-member, one-code}
 use Rattle.protocol.proofs.Steady.{Steady}
-use Rattle.protocol.proofs.Written.{limits-size, limits-value, peer-with, peer-beside}
+use Rattle.protocol.proofs.Written.{limits-size, limits-value, code-fits, peer-with, peer-beside}
 use Rattle.protocol.proofs.Invariant.{Known, NoAnswer, Told, Kept}
 use Rattle.protocol.proofs.Keeping.{ends-apart, spoken-wired, sent-wired, sent-answer, known-heard, known-retire}
 use Rattle.protocol.proofs.Kiosk.{kept-refused}
@@ -58,23 +60,23 @@ module _ (O N : List ℕ) where
     settled : (cs : List Check) (a : Answer) → (Pass cs → Kept N (after O w (at controller (receive x room)) a)) → Kept N (after O w (at controller (receive x room)) (answer cs a))
     settled cs a f = settle (λ b. Kept N (after O w (at controller (receive x room)) b)) cs a (λ r. kept-refused O N w controller (receive x room) r k) f
 
-  kept-in : (w : World) (x : List ℕ) (room : ℕ) (p : Apdu) → parse x ≡ p → In (wired kiosk x) (w .book .wire) → Steady N (w .controller) → Kept N w
+  kept-in : (w : World) (x : List ℕ) (room : ℕ) (p : Apdu) → valid N ≡ true → parse x ≡ p → In (wired kiosk x) (w .book .wire) → Steady N (w .controller) → Kept N w
       → Kept N (after O w (at controller (receive x room)) (receiveApdu N (w .controller) x p))
   unfolding receiveApdu
-  kept-in w x room (badlyStructured p) e m s k = kept-refused O N w controller (receive x room) (fault x 2 Absent) k
-  kept-in w x room unrecognized e m s k = kept-refused O N w controller (receive x room) (fault x 0 Absent) k
-  kept-in w x room (mistyped i) e m s k = kept-refused O N w controller (receive x room) (fault x 1 i) k
-  kept-in w x room (Invoke i l c v) e m s k =
+  kept-in w x room (badlyStructured p) n e m s k = kept-refused O N w controller (receive x room) (fault x 2 Absent) k
+  kept-in w x room unrecognized n e m s k = kept-refused O N w controller (receive x room) (fault x 0 Absent) k
+  kept-in w x room (mistyped i) n e m s k = kept-refused O N w controller (receive x room) (fault x 1 i) k
+  kept-in w x room (Invoke i l c v) n e m s k =
       settled w x room _ e k (invokeChecks N (w .controller) i l c v) _
       (λ p. kept-accepted w x room _ e k _
       (subst (λ (q : List Record). Known q (w .book .heard ++ (record { id = i; code = fieldCode c } ∷ [])) (w .book .asked))
-      (sym (peer-with N (w .controller) i (fieldCode c) s (arrived-invoke N (w .controller) i l c v p .vacant)))
+      (sym (peer-with N (w .controller) i (fieldCode c) s (listed-code-right N n (fieldCode c) (operation-listed N c (arrived-invoke N (w .controller) i l c v p .known))) (arrived-invoke N (w .controller) i l c v p .vacant)))
       (known-heard (record { id = i; code = fieldCode c }) (isSilent N (fieldCode c)) (k .spoken x m i l c v e) (k .known)))
-      (λ f n. told-more (record { id = i; code = fieldCode c }) (k .told f n)))
-  kept-in w x room (Result i b) e m s k = settled w x room _ e k (resultChecks N (w .controller) i b) _ (λ _. kept-accepted w x room _ e k _ (k .known) (k .told))
-  kept-in w x room (Error i d v) e m s k = settled w x room _ e k (errorChecks N (w .controller) i d v) _ (λ _. kept-accepted w x room _ e k _ (k .known) (k .told))
-  kept-in w x room (Reject Absent kind p) e m s k = kept-accepted w x room _ e k _ (k .known) (k .told)
-  kept-in w x room (Reject (Of i) kind p) e m s k = kept-accepted w x room _ e k _ (peers (eqb kind 0x81)) (k .told)
+      (λ f q. told-more (record { id = i; code = fieldCode c }) (k .told f q)))
+  kept-in w x room (Result i b) n e m s k = settled w x room _ e k (resultChecks N (w .controller) i b) _ (λ _. kept-accepted w x room _ e k _ (k .known) (k .told))
+  kept-in w x room (Error i d v) n e m s k = settled w x room _ e k (errorChecks N (w .controller) i d v) _ (λ _. kept-accepted w x room _ e k _ (k .known) (k .told))
+  kept-in w x room (Reject Absent kind p) n e m s k = kept-accepted w x room _ e k _ (k .known) (k .told)
+  kept-in w x room (Reject (Of i) kind p) n e m s k = kept-accepted w x room _ e k _ (peers (eqb kind 0x81)) (k .told)
     where
       peers : (b : Bool) → Known (peerRecords (cond b (retireOwn (w .controller) (record { 0 = i })) (w .controller))) (w .book .heard) (w .book .asked)
       peers true = k .known
@@ -93,8 +95,8 @@ module _ (O N : List ℕ) where
     same-last : codeIn (peerRecords (w .controller)) i ≡ lastCode i (w .book .heard)
     same-last = one-code (w .book .asked) (k .ours .unique) i _ _ (k .known .hears _ heard-code) (k .known .hears _ last-heard)
 
-    small-code : Small (codeIn (peerRecords (w .controller)) i .0)
-    small-code = k .ours .small (record { id = i; code = codeIn (peerRecords (w .controller)) i }) (k .known .hears _ heard-code)
+    fitting-code : CodeFits (codeIn (peerRecords (w .controller)) i)
+    fitting-code = k .ours .fits (record { id = i; code = codeIn (peerRecords (w .controller)) i }) (k .known .hears _ heard-code)
 
     -- an answer that reads back as given, its record retired
     kept-given : (g : Given) (x : List ℕ) → Told N (w .book .heard) (record { given = g; apdu = x })
@@ -124,7 +126,7 @@ module _ (O N : List ℕ) where
   pub kept-controller : (w : World) (c : Call) → InRange c → Carried (w .book .wire) controller c → Steady N (w .controller) → Kept N w
       → Pass (checks N (w .controller) c) → Kept N (after O w (at controller c) (done N (w .controller) c))
   unfolding done
-  kept-controller w (receive x room) h m s k p = kept-in w x room (parse x) refl m s k
+  kept-controller w (receive x room) h m s k p = kept-in w x room (parse x) (table-valid N (w .controller) (receive x room) p) refl m s k
   kept-controller w (invoke i c l v room) h m s k p =
       let e = first-invoke i c (nonEmpty v) l in
       kept-other w _ (encodeInvoke i l c (nonEmpty v)) (omega arith, omega arith)
@@ -143,7 +145,7 @@ module _ (O N : List ℕ) where
           error = refl;
           shown = lastPart (resultApdu (w .controller) i v) (nonEmpty v);
           octets = last-octets (resultApdu (w .controller) i v) (nonEmpty v);
-          reads = rw (← same) (parse-result i (codeIn (peerRecords (w .controller)) i) (nonEmpty v) h (small-code w i k has) (limits-value inBody (nonEmpty v) (resultApdu (w .controller) i v) lim) (limits-size inBody (nonEmpty v) (resultApdu (w .controller) i v) lim));
+          reads = rw (← same) (parse-result i (codeIn (peerRecords (w .controller)) i) (nonEmpty v) h (fitting-code w i k has) (limits-value inBody (nonEmpty v) (resultApdu (w .controller) i v) lim) (limits-size inBody (nonEmpty v) (resultApdu (w .controller) i v) lim));
           class = rw (← same) (f .class);
           right = rw (← same) (f .right);
         });
@@ -163,7 +165,7 @@ module _ (O N : List ℕ) where
           error = refl;
           shown = lastPart (encodeError i e (nonEmpty v)) (nonEmpty v);
           octets = last-octets (encodeError i e (nonEmpty v)) (nonEmpty v);
-          reads = parse-error i e (nonEmpty v) (h .0) (h .1) (limits-value inApdu (nonEmpty v) (encodeError i e (nonEmpty v)) lim) (limits-size inApdu (nonEmpty v) (encodeError i e (nonEmpty v)) lim);
+          reads = parse-error i e (nonEmpty v) (h .0) (code-fits e (h .1) (erred-right N (w .controller) i e v room p)) (limits-value inApdu (nonEmpty v) (encodeError i e (nonEmpty v)) lim) (limits-size inApdu (nonEmpty v) (encodeError i e (nonEmpty v)) lim);
           class = rw (← same) (f .class);
           right = f .right;
         });

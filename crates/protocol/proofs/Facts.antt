@@ -1,25 +1,30 @@
 -- What the passed checks of a call give, each fact by its name; a check is found by its number, so that no law counts places in a list.
 use Prim.Native.Nat.{ℕ}
 use mathlib.Core.Path.{_≡_}
-use mathlib.Core.Bool.{true, false, not, _&&_}
+use mathlib.Core.Bool.{true, false, not, _&&_, false≢true}
 use mathlib.Core.List.{List}
 use mathlib.Core.Option.{Option}
 use borrow.Author.Tests.{not-false}
+use Rattle.base.proofs.Tests.{and-left}
 use Rattle.base.specs.Lists.{nonEmpty}
-use Rattle.records.specs.declared.Code.{Code}
+use Rattle.codes.specs.declared.Code.{Code}
+use Rattle.codes.specs.Code.{codeRight}
 use Rattle.records.specs.declared.State.{State}
 use Rattle.records.specs.Records.{member}
 use Rattle.optable.specs.declared.Rule.{Rule}
-use Rattle.optable.specs.Lookup.{operationOf, listed, resultOf, errorOf, parameterOf, paired, childOf}
+use Rattle.optable.specs.Validity.{valid}
+use Rattle.optable.specs.Lookup.{operationOf, listed, resultOf, errorOf, known, parameterOf, paired, childOf}
+use Rattle.optable.proofs.NameLaws.{listed-code-right, known-code-right}
 use Rattle.optable.specs.Value.{valueRight}
 use Rattle.apdu.specs.declared.Number.{Number}
 use Rattle.apdu.specs.declared.Number.the-variants.{Of}
 use Rattle.apdu.specs.declared.CodeField.{CodeField}
+use Rattle.apdu.specs.declared.CodeField.the-variants.{Is, Other}
 use Rattle.apdu.specs.Field.{Part}
 use Rattle.apdu.specs.Parse.{CodedValue}
 use Rattle.apdu.specs.Encode.{encodeInvoke, encodeError, encodeReject}
-use Rattle.protocol.specs.Call.{invoke, result, error, reject}
-use Rattle.protocol.specs.Check.{ownRecords, peerRecords, codeIn, isFull, classIn, isSilent, isClass, isLinked, linkedTo, inApdu, inBody, withinLimits, tooShort}
+use Rattle.protocol.specs.Call.{Call, invoke, result, error, reject}
+use Rattle.protocol.specs.Check.{ownRecords, peerRecords, codeIn, isFull, classIn, isSilent, isClass, isLinked, linkedTo, usable, inApdu, inBody, withinLimits, tooShort}
 use Rattle.protocol.specs.Receive.{fieldCode, isOperation, invokeChecks, resultChecks, errorChecks}
 use Rattle.protocol.specs.Perform.{laterChecks, checks, resultApdu}
 use Rattle.protocol.proofs.Checks.{Pass, passed}
@@ -86,6 +91,22 @@ pub reject-fits : (T : List ℕ) (s : State) (i p room : ℕ) → Pass (checks T
 unfolding laterChecks
 reject-fits T s i p room h = passed (checks T s (reject i p room)) h 2
 
+-- a call that passed its checks has a valid table
+pub table-valid : (T : List ℕ) (s : State) (c : Call) → Pass (checks T s c) → valid T ≡ true
+unfolding usable
+table-valid T s c p = and-left (valid T) _ (not-false _ (passed (checks T s c) p 1))
+
+-- an operation that was invoked, and an error that was given, have codes of their form
+pub invoked-right : (T : List ℕ) (s : State) (i : ℕ) (c : Code) (l : Number) (v : List ℕ) (room : ℕ) → Pass (checks T s (invoke i c l v room)) → codeRight c ≡ true
+unfolding laterChecks
+invoked-right T s i c l v room p =
+    listed-code-right T (table-valid T s (invoke i c l v room) p) c (not-false _ (passed (checks T s (invoke i c l v room)) p 4))
+
+pub erred-right : (T : List ℕ) (s : State) (i : ℕ) (e : Code) (v : List ℕ) (room : ℕ) → Pass (checks T s (error i e v room)) → codeRight e ≡ true
+unfolding laterChecks
+erred-right T s i e v room p =
+    known-code-right T (table-valid T s (error i e v room) p) e (and-left (known (errorOf T e)) _ (not-false _ (passed (checks T s (error i e v room)) p 13)))
+
 -- ---- received APDUs
 
 pub record ArrivedInvoke (T : List ℕ) (s : State) (i : ℕ) (c : CodeField) : Type 0 where
@@ -98,6 +119,11 @@ unfolding invokeChecks
 arrived-invoke T s i l c v p =
     let by = passed (invokeChecks T s i l c v) p in
     record { new = by 0; known = not-false _ (by 1); vacant = by 3 }
+
+-- the operation of an accepted Invoke is in the table
+pub operation-listed : (T : List ℕ) (c : CodeField) → isOperation T c ≡ true → listed (operationOf T (fieldCode c)) ≡ true
+operation-listed T (Is c) h = h
+operation-listed T Other h = absurd (false≢true h)
 
 pub arrived-result : (T : List ℕ) (s : State) (i : ℕ) (b : Option CodedValue) → Pass (resultChecks T s i b) → member i (ownRecords s) ≡ true
 unfolding resultChecks

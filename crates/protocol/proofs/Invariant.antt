@@ -6,7 +6,7 @@ use mathlib.Core.List.{List, List·Memᴰ as In, List·Memᴰ·not-nil as in-nil
 use mathlib.Core.Logic.{_⊎_, _≢_}
 use mathlib.Core.Option.{Option, some, none}
 use lib.ListN.{length, getD}
-use Rattle.records.specs.declared.Code.{Code}
+use Rattle.codes.specs.declared.Code.{Code}
 use Rattle.records.specs.declared.Record.{Record}
 use Rattle.records.specs.Limits.{octets}
 use Rattle.records.specs.State.{fresh}
@@ -14,14 +14,14 @@ use Rattle.optable.specs.Lookup.{operationOf, resultOf, errorOf, parameterOf}
 use Rattle.optable.specs.Value.{valueRight}
 use Rattle.apdu.specs.declared.Number.{Number}
 use Rattle.apdu.specs.declared.CodeField.{CodeField}
-use Rattle.apdu.specs.declared.CodeField.the-variants.{Local}
+use Rattle.apdu.specs.declared.CodeField.the-variants.{Is}
 use Rattle.apdu.specs.Field.{Part, octetsOf}
 use Rattle.apdu.specs.Parse.{Apdu, parse, invoke as Invoke, result as Result, error as Error}
 use Rattle.apdu.proofs.RoundTrip.{bodyOf}
 use Rattle.protocol.specs.Check.{classIn, isClass, ownRecords, peerRecords}
 use Rattle.protocol.specs.Receive.{fieldCode}
 use Rattle.protocol.specs.Book.{idsOf, among, eachOnce, kiosk, controller, aResult, anError, Given, Wired, wired, Answered, World, begin}
-use Rattle.protocol.specs.Demand3.{Small}
+use Rattle.apdu.proofs.FieldRoundTrip.{CodeFits}
 use Rattle.protocol.proofs.Ids.{never-both}
 use Rattle.protocol.proofs.Steady.{Steady, steady-fresh}
 
@@ -32,7 +32,7 @@ pub record Ours (owns : List Record) (live : List ℕ) (asked : List Record) (sh
   pub alive : live ≡ idsOf owns
   pub mine : (r : Record) → In r owns → In r asked
   pub unique : eachOnce (idsOf asked) ≡ true
-  pub small : (r : Record) → In r asked → Small (r .code .0)
+  pub fits : (r : Record) → In r asked → CodeFits (r .code)
   pub early : (i : ℕ) → among i shown ≡ true → among i (idsOf asked) ≡ true
   pub gone : (i : ℕ) → among i shown ≡ true → among i (idsOf owns) ≡ false
   pub once : eachOnce shown ≡ true
@@ -70,7 +70,7 @@ pub record ToldError (N : List ℕ) (p : Apdu) (g : Given) : Type 0 where
   pub error : g .error ≡ some code
   pub shown : Option Part
   pub octets : octetsOf shown ≡ g .value
-  pub reads : p ≡ Error (g .id) (Local code) shown
+  pub reads : p ≡ Error (g .id) (Is code) shown
   pub class : isClass 4 5 (classIn N (g .operation)) ≡ false
   pub right : valueRight (parameterOf (errorOf N code)) (g .value) ≡ true
 
@@ -104,7 +104,7 @@ inv-begin O N = record {
       alive = refl;
       mine = λ r m. absurd (in-nil m);
       unique = refl;
-      small = λ r m. absurd (in-nil m);
+      fits = λ r m. absurd (in-nil m);
       early = λ i h. absurd (never-both false h refl);
       gone = λ i h. absurd (never-both false h refl);
       once = refl;

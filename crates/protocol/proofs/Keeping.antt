@@ -9,7 +9,7 @@ use lib.ListN.{getD}
 use lib.Dec.{eqb}
 use borrow.Author.Tests.{eqb-true, ne-eqb}
 use Rattle.base.proofs.Tests.{or-cases}
-use Rattle.records.specs.declared.Code.{Code}
+use Rattle.codes.specs.declared.Code.{Code}
 use Rattle.records.specs.declared.Record.{Record}
 use Rattle.records.specs.Records.{member, without}
 use Rattle.apdu.specs.Parse.{invoke as Invoke}
@@ -17,7 +17,7 @@ use Rattle.apdu.proofs.FirstOctet.{first-read}
 use Rattle.protocol.specs.Check.{codeIn}
 use Rattle.protocol.specs.Receive.{fieldCode}
 use Rattle.protocol.specs.Book.{idsOf, among, leaving, eachOnce, End, kiosk, controller, Wired, wired, Answered, wiring}
-use Rattle.protocol.specs.Demand3.{Small}
+use Rattle.apdu.proofs.FieldRoundTrip.{CodeFits}
 use Rattle.protocol.proofs.Ids.{never-both, among-leaving, among-left, among-added, once-added, ids-added, ids-without, member-among, in-without, in-member, in-code}
 use Rattle.protocol.proofs.Invariant.{Ours, Spoken, Known, NoAnswer, Sent}
 
@@ -75,7 +75,7 @@ module _ {owns : List Record} {live : List ℕ} {asked : List Record} {shown : L
     alive = rw (ids-without, o .alive) refl;
     mine = λ r m. o .mine r (in-without i owns m);
     unique = o .unique;
-    small = o .small;
+    fits = o .fits;
     early = o .early;
     gone = λ j h. rw ids-without (among-leaving j i (idsOf owns) (o .gone j h));
     once = o .once;
@@ -87,7 +87,7 @@ module _ {owns : List Record} {live : List ℕ} {asked : List Record} {shown : L
     alive = rw (ids-without, o .alive) refl;
     mine = λ r m. o .mine r (in-without i owns m);
     unique = o .unique;
-    small = o .small;
+    fits = o .fits;
     early = λ j q. early′ j (or-cases (among j shown) (eqb i j) (rw among-added at q));
     gone = λ j q. rw ids-without (gone′ j (or-cases (among j shown) (eqb i j) (rw among-added at q)));
     once = once-added i shown (o .once) (new (among i shown) refl);
@@ -109,7 +109,7 @@ module _ {owns : List Record} {live : List ℕ} {asked : List Record} {shown : L
       gone′ j (inr e) = rw (← (eqb-true i j e)) (among-left i (idsOf owns))
 
   -- an invocation is asked, and live unless it is silent
-  pub ours-ask : (i : ℕ) (c : Code) (silent : Bool) → Small (c .0) → among i (idsOf asked) ≡ false → Ours owns live asked shown
+  pub ours-ask : (i : ℕ) (c : Code) (silent : Bool) → CodeFits c → among i (idsOf asked) ≡ false → Ours owns live asked shown
       → Ours (cond silent owns (owns ++ (record { id = i; code = c } ∷ []))) (cond silent live (live ++ (i ∷ []))) (asked ++ (record { id = i; code = c } ∷ [])) shown
   ours-ask i c silent sc n o = go silent
     where
@@ -119,9 +119,9 @@ module _ {owns : List Record} {live : List ℕ} {asked : List Record} {shown : L
       unique′ : eachOnce (idsOf (asked ++ (r ∷ []))) ≡ true
       unique′ = rw ids-added (once-added i (idsOf asked) (o .unique) n)
 
-      small″ : (q : Record) → In q asked ⊎ In q (r ∷ []) → Small (q .code .0)
-      small″ q (inl m) = o .small q m
-      small″ q (inr m) = rw (in-one m) sc
+      fits″ : (q : Record) → In q asked ⊎ In q (r ∷ []) → CodeFits (q .code)
+      fits″ q (inl m) = o .fits q m
+      fits″ q (inr m) = rw (in-one m) sc
 
       early′ : (j : ℕ) → among j shown ≡ true → among j (idsOf (asked ++ (r ∷ []))) ≡ true
       early′ j h = rw (ids-added, among-added, o .early j h) refl
@@ -134,12 +134,12 @@ module _ {owns : List Record} {live : List ℕ} {asked : List Record} {shown : L
       apart j h = ne-eqb i j (λ e. never-both (among j (idsOf asked)) (o .early j h) (rw e at n))
 
       go : (b : Bool) → Ours (cond b owns (owns ++ (r ∷ []))) (cond b live (live ++ (i ∷ []))) (asked ++ (r ∷ [])) shown
-      go true = record { alive = o .alive; mine = λ q m. mine′ q (inl m); unique = unique′; small = λ q m. small″ q (in-cases asked m); early = early′; gone = o .gone; once = o .once }
+      go true = record { alive = o .alive; mine = λ q m. mine′ q (inl m); unique = unique′; fits = λ q m. fits″ q (in-cases asked m); early = early′; gone = o .gone; once = o .once }
       go false = record {
         alive = rw (ids-added, o .alive) refl;
         mine = λ q m. mine′ q (in-cases owns m);
         unique = unique′;
-        small = λ q m. small″ q (in-cases asked m);
+        fits = λ q m. fits″ q (in-cases asked m);
         early = early′;
         gone = λ j h. rw (ids-added, among-added, o .gone j h) (apart j h);
         once = o .once;

@@ -8,7 +8,7 @@ use mathlib.Core.Option.{Option, some}
 use native.Mathlib.Omega.{arith}
 use lib.ListN.{getD}
 use lib.Dec.{eqb}
-use Rattle.records.specs.declared.Code.{Code}
+use Rattle.codes.specs.declared.Code.{Code}
 use Rattle.records.specs.declared.Record.{Record}
 use Rattle.records.specs.declared.State.{State}
 use Rattle.records.specs.Records.{without}
@@ -16,7 +16,7 @@ use Rattle.records.specs.State.{retireOwn}
 use Rattle.records.proofs.Soundness.{view-retired}
 use Rattle.apdu.specs.declared.Number.{Number}
 use Rattle.apdu.specs.declared.Number.the-variants.{Of, Absent}
-use Rattle.apdu.specs.declared.CodeField.the-variants.{Local}
+use Rattle.apdu.specs.declared.CodeField.the-variants.{Is}
 use Rattle.apdu.specs.Field.{Part}
 use Rattle.apdu.specs.Parse.{Apdu, badlyStructured, unrecognized, mistyped, parse, invoke as Invoke, result as Result, error as Error, reject as Reject}
 use Rattle.base.specs.Lists.{nonEmpty}
@@ -30,9 +30,9 @@ use Rattle.protocol.specs.Perform.{checks, done, resultApdu}
 use Rattle.protocol.specs.Book.{idsOf, among, leaving, leavingBy, End, kiosk, controller, at, Wired, wired, wiring, World, showing, shownBy, after}
 use Rattle.protocol.specs.Demand3.{InRange}
 use Rattle.protocol.proofs.Checks.{Pass, settle}
-use Rattle.protocol.proofs.Facts.{invoke-facts, arrived-result, arrived-error}
+use Rattle.protocol.proofs.Facts.{invoke-facts, arrived-result, arrived-error, invoked-right}
 use Rattle.protocol.proofs.Steady.{Steady}
-use Rattle.protocol.proofs.Written.{refusal-first, limits-size, limits-value, number-fits, own-with, own-beside}
+use Rattle.protocol.proofs.Written.{refusal-first, limits-size, limits-value, number-fits, code-fits, own-with, own-beside}
 use Rattle.protocol.proofs.Invariant.{Ours, Spoken, Kept}
 use Rattle.protocol.proofs.Keeping.{ends-apart, spoken-wired, wired-cases, sent-wired, ours-retire, ours-show, ours-ask, known-asked}
 
@@ -112,7 +112,7 @@ module _ (O N : List ℕ) where
 
   -- ---- the kiosk's requests
 
-  spoken-asked : {wire : List Wired} {asked : List Record} (i : ℕ) (l : Number) (c : Code) (v : Option (List ℕ)) (p : Option Part) → parse (encodeInvoke i l c v) ≡ Invoke i l (Local c) p
+  spoken-asked : {wire : List Wired} {asked : List Record} (i : ℕ) (l : Number) (c : Code) (v : Option (List ℕ)) (p : Option Part) → parse (encodeInvoke i l c v) ≡ Invoke i l (Is c) p
       → Spoken wire asked → Spoken (wiring kiosk (encodeInvoke i l c v) wire) (asked ++ (record { id = i; code = c } ∷ []))
   spoken-asked {wire} {asked} i l c v p back s y m i′ l′ c′ v′ e = go (wired-cases kiosk (encodeInvoke i l c v) wire m)
     where
@@ -120,9 +120,9 @@ module _ (O N : List ℕ) where
       go (inl a) = in-left (record { id = i; code = c } ∷ []) (s y a i′ l′ c′ v′ e)
       go (inr a) =
           let q : y ≡ encodeInvoke i l c v = ap (λ (z : Wired). z .apdu) a in
-          let b : parse y ≡ Invoke i l (Local c) p = ap parse q ∙ back in
+          let b : parse y ≡ Invoke i l (Is c) p = ap parse q ∙ back in
           let d : i′ ≡ i = cc in
-          let f : c′ ≡ Local c = cc in
+          let f : c′ ≡ Is c = cc in
           in-right asked (here (rw (d, f)))
 
   -- a request that writes no Invoke and asks nothing
@@ -143,11 +143,13 @@ module _ (O N : List ℕ) where
   kept-kiosk w (invoke i c l v room) h s n k p =
       let f = invoke-facts O (w .kiosk) i v room c l p in
       let lim = f .sendable .within in
+      let form = invoked-right O (w .kiosk) i c l v room p in
+      let fits = code-fits c (h .1) form in
       record {
         ours = subst (λ (m : List Record). Ours m (cond (isSilent O c) (w .book .live) (w .book .live ++ (i ∷ []))) (w .book .asked ++ (record { id = i; code = c } ∷ [])) (w .shown))
-            (sym (own-with O (w .kiosk) i c s (f .vacant)))
-            (ours-ask i c (isSilent O c) (h .1) (n refl) (k .ours));
-        spoken = spoken-asked i l c (nonEmpty v) _ (parse-invoke i l c (nonEmpty v) (h .0) (number-fits l (h .2)) (h .1) (limits-value inApdu (nonEmpty v) (encodeInvoke i l c (nonEmpty v)) lim) (limits-size inApdu (nonEmpty v) (encodeInvoke i l c (nonEmpty v)) lim)) (k .spoken);
+            (sym (own-with O (w .kiosk) i c s form (f .vacant)))
+            (ours-ask i c (isSilent O c) fits (n refl) (k .ours));
+        spoken = spoken-asked i l c (nonEmpty v) _ (parse-invoke i l c (nonEmpty v) (h .0) (number-fits l (h .2)) fits (limits-value inApdu (nonEmpty v) (encodeInvoke i l c (nonEmpty v)) lim) (limits-size inApdu (nonEmpty v) (encodeInvoke i l c (nonEmpty v)) lim)) (k .spoken);
         known = known-asked (record { id = i; code = c }) (k .known);
         sent = sent-wired kiosk (encodeInvoke i l c (nonEmpty v)) ends-apart (k .sent);
         told = k .told;

@@ -11,7 +11,7 @@ use lib.ListN.{length, drop, length-append}
 use lib.Seq.{drop-append-seam}
 use lib.Dec.{leb}
 use borrow.Author.Tests.{leb-true}
-use Rattle.records.specs.declared.Code.{Code}
+use Rattle.codes.specs.declared.Code.{Code}
 use Rattle.records.specs.Limits.{octets, levels}
 use Rattle.ber.specs.declared.element.Checked.{Checked}
 use Rattle.ber.specs.declared.element.Checked.the-variants.{Good, Wrong}
@@ -29,9 +29,9 @@ use Rattle.ber.proofs.Locality.{element-append, element-more}
 use Rattle.ber.proofs.FaultLaws.{well-formed-finding}
 use Rattle.apdu.specs.declared.Number.{Number}
 use Rattle.apdu.specs.declared.Number.the-variants.{Of, Absent}
-use Rattle.apdu.specs.Encode.{integerField, linkedField, valueField, bodyField, codedFields, encodeInvoke, encodeResult, encodeError}
+use Rattle.apdu.specs.Encode.{integerField, codeField, linkedField, valueField, bodyField, codedFields, encodeInvoke, encodeResult, encodeError}
 use Rattle.apdu.proofs.FieldLaws.{header-alone, part-alone, octets-well-formed}
-use Rattle.apdu.proofs.FieldRoundTrip.{NumberFits, id-well, linked-well}
+use Rattle.apdu.proofs.FieldRoundTrip.{NumberFits, id-well, linked-well, CodeFits, code-well}
 use Rattle.apdu.proofs.RoundTrip.{Free}
 use Rattle.protocol.specs.Check.{valueFinding, valueWell, inApdu, inBody, withinLimits}
 
@@ -121,20 +121,20 @@ unfolding valueWell valueField
 value-levels d k none h = contents-none d
 value-levels d k (some v) h = value-contents d k v h
 
-coded-levels : (d i : ℕ) (l : Number) (c : Code) (v : Option (List ℕ)) → i < 2 ^ 32 → NumberFits l → c .0 < 2 ^ 32 → contentsOf (suc d) (codedFields i l c v) ≡ contentsOf (suc d) (valueField v)
+coded-levels : (d i : ℕ) (l : Number) (c : Code) (v : Option (List ℕ)) → i < 2 ^ 32 → NumberFits l → CodeFits c → contentsOf (suc d) (codedFields i l c v) ≡ contentsOf (suc d) (valueField v)
 unfolding linkedField
 coded-levels d i Absent c v si sl sc =
-    behind (suc d) (integerField 0x02 i) _ (id-well i si d) ∙ behind (suc d) (integerField 0x02 (c .0)) (valueField v) (id-well (c .0) sc d)
+    behind (suc d) (integerField 0x02 i) _ (id-well i si d) ∙ behind (suc d) (codeField c) (valueField v) (code-well c sc d)
 coded-levels d i (Of l) c v si sl sc =
     behind (suc d) (integerField 0x02 i) _ (id-well i si d) ∙ behind (suc d) (integerField 0x80 l) _ (linked-well l sl d)
-    ∙ behind (suc d) (integerField 0x02 (c .0)) (valueField v) (id-well (c .0) sc d)
+    ∙ behind (suc d) (codeField c) (valueField v) (code-well c sc d)
 
-body-levels : (c : Code) (v : Option (List ℕ)) → c .0 < 2 ^ 32 → length (bodyField c v) ≤ octets → valueWell levels v ≡ true → contentsOf 15 (bodyField c v) ≡ valueWell 14 v
+body-levels : (c : Code) (v : Option (List ℕ)) → CodeFits c → length (bodyField c v) ≤ octets → valueWell levels v ≡ true → contentsOf 15 (bodyField c v) ≡ valueWell 14 v
 unfolding bodyField oneOf contentRule constructed valueWell
 body-levels c none sc n h = contents-none 15
 body-levels c (some v) sc n h =
-    contents-written 0x30 (integerField 0x02 (c .0) ++ v) (record { one = refl; rule = λ _. refl }) refl (omega (arith, element-octets-length 0x30 (integerField 0x02 (c .0) ++ v))) 14
-    ∙ behind 14 (integerField 0x02 (c .0)) v (id-well (c .0) sc 13) ∙ value-contents 14 2 v h
+    contents-written 0x30 (codeField c ++ v) (record { one = refl; rule = λ _. refl }) refl (omega (arith, element-octets-length 0x30 (codeField c ++ v))) 14
+    ∙ behind 14 (codeField c) v (code-well c sc 13) ∙ value-contents 14 2 v h
 
 -- ---- 15, of each APDU that a request writes
 
@@ -142,7 +142,7 @@ both : (b x y : Bool) → (b ≡ true → x ≡ y) → (b && x) ≡ (b && y)
 both true x y e = e refl
 both false x y e = refl
 
-module _ (i : ℕ) (c : Code) (v : Option (List ℕ)) (si : i < 2 ^ 32) (sc : c .0 < 2 ^ 32) (nine : valueWell levels v ≡ true) where
+module _ (i : ℕ) (c : Code) (v : Option (List ℕ)) (si : i < 2 ^ 32) (sc : CodeFits c) (nine : valueWell levels v ≡ true) where
   coded-within : (t : ℕ) (l : Number) → NumberFits l → Free t → constructed t ≡ true → withinLimits inApdu v (elementOctets t (codedFields i l c v)) ≡ (leb (length (elementOctets t (codedFields i l c v))) octets && wellFormed levels (elementOctets t (codedFields i l c v)))
   unfolding withinLimits
   coded-within t l sl g k =

@@ -6,7 +6,7 @@ use mathlib.Core.Bool.{true, false}
 use mathlib.Core.List.{List}
 use mathlib.Core.Option.{Option}
 use borrow.Author.Tests.{not-false}
-use Rattle.records.specs.declared.Code.{Code}
+use Rattle.codes.specs.declared.Code.{Code}
 use Rattle.records.specs.declared.Record.{Record}
 use Rattle.records.specs.declared.State.{State}
 use Rattle.records.specs.declared.Found.{Found}
@@ -18,7 +18,7 @@ use Rattle.optable.proofs.TableLaws.{child-parent}
 use Rattle.apdu.specs.declared.Number.{Number}
 use Rattle.apdu.specs.declared.Number.the-variants.{Of, Absent}
 use Rattle.apdu.specs.Field.{Part}
-use Rattle.apdu.specs.declared.CodeField.the-variants.{Local}
+use Rattle.apdu.specs.declared.CodeField.the-variants.{Is}
 use Rattle.protocol.specs.Call.{invoke}
 use Rattle.protocol.specs.Check.{codeFound, codeIn, ownRecords, peerRecords, linkedTo}
 use Rattle.protocol.specs.Receive.{invokeChecks}
@@ -37,7 +37,7 @@ member-same n l m e h = go (lookup n m) refl
 -- an Invoke whose request passed at s has none of the linked problems at t, where the parent's record is an own one
 pub linked-taken : (T : List ℕ) (s t : State) (i : ℕ) (c : Code) (l : Number) (v : List ℕ) (room : ℕ) (w : Option Part) → lookup (linkedTo l) (ownRecords t) ≡ lookup (linkedTo l) (peerRecords s)
     → Pass (checks T s (invoke i c l v room))
-    → (failing 5 (invokeChecks T t i l (Local c) w) ≡ false) × (failing 6 (invokeChecks T t i l (Local c) w) ≡ false) × (failing 7 (invokeChecks T t i l (Local c) w) ≡ false)
+    → (failing 5 (invokeChecks T t i l (Is c) w) ≡ false) × (failing 6 (invokeChecks T t i l (Is c) w) ≡ false) × (failing 7 (invokeChecks T t i l (Is c) w) ≡ false)
 unfolding invokeChecks
 linked-taken T s t i c Absent v room w e p = (refl, refl, refl)
 linked-taken T s t i c (Of j) v room w e p =

@@ -8,16 +8,16 @@ use mathlib.Core.Option.{Option, some, none}
 use native.Mathlib.Omega.{arith}
 use lib.ListN.{length}
 use borrow.Author.Tests.{le-ltb}
-use Rattle.records.specs.declared.Code.{Code}
+use Rattle.codes.specs.declared.Code.{Code}
 use Rattle.records.specs.Limits.{octets}
 use Rattle.records.specs.Records.{member}
-use Rattle.records.proofs.Laws.{equal-code-same}
+use Rattle.codes.proofs.CodeLaws.{equal-code-same}
 use Rattle.records.proofs.Soundness.{sound-state}
 use Rattle.optable.specs.Validity.{valid}
 use Rattle.optable.specs.Lookup.{Extends, operationOf, errorOf, known, paired}
 use Rattle.optable.proofs.TableLaws.{paired-known}
 use Rattle.apdu.specs.declared.Number.the-variants.{Of}
-use Rattle.apdu.specs.declared.CodeField.the-variants.{Local}
+use Rattle.apdu.specs.declared.CodeField.the-variants.{Is}
 use Rattle.apdu.specs.Field.{Part}
 use Rattle.apdu.specs.Parse.{CodedValue, Apdu, parse, result as Result, error as Error}
 use Rattle.apdu.proofs.RoundTrip.{bodyOf}
@@ -91,28 +91,28 @@ module _ (O N : List ℕ) (valid-O : valid O ≡ true) (extends : Extends N O) w
         code-is : (e : Code) → g .error ≡ some e → t .code ≡ e
         code-is e q = cc (t .error)
 
-        facts : isRefused (receiveApdu O (w .kiosk) x (Error (g .id) (Local (t .code)) (t .shown))) ≡ false → ArrivedError O (w .kiosk) (g .id) (Local (t .code))
-        facts h = arrived-error O (w .kiosk) (g .id) (Local (t .code)) (t .shown) (accepted-passes (errorChecks O (w .kiosk) (g .id) (Local (t .code)) (t .shown)) _ h)
+        facts : isRefused (receiveApdu O (w .kiosk) x (Error (g .id) (Is (t .code)) (t .shown))) ≡ false → ArrivedError O (w .kiosk) (g .id) (Is (t .code))
+        facts h = arrived-error O (w .kiosk) (g .id) (Is (t .code)) (t .shown) (accepted-passes (errorChecks O (w .kiosk) (g .id) (Is (t .code)) (t .shown)) _ h)
 
-        live : isRefused (receiveApdu O (w .kiosk) x (Error (g .id) (Local (t .code)) (t .shown))) ≡ false → member (g .id) (ownRecords (w .kiosk)) ≡ true
+        live : isRefused (receiveApdu O (w .kiosk) x (Error (g .id) (Is (t .code)) (t .shown))) ≡ false → member (g .id) (ownRecords (w .kiosk)) ≡ true
         live h = facts h .live
 
-        listing : isRefused (receiveApdu O (w .kiosk) x (Error (g .id) (Local (t .code)) (t .shown))) ≡ false → Listed O g
+        listing : isRefused (receiveApdu O (w .kiosk) x (Error (g .id) (Is (t .code)) (t .shown))) ≡ false → Listed O g
         listing h e q =
             rw (← (same-code O N w (inv .kept) (g .id) (g .operation) m (live h)), ← (code-is e q)) (facts h .listed)
 
         class : member (g .id) (ownRecords (w .kiosk)) ≡ true → isClass 4 5 (classIn O (codeIn (ownRecords (w .kiosk)) (g .id))) ≡ false
         class h = rw (← (same-operation w inv (g .id) (g .operation) m h)) (t .class)
 
-        passes : member (g .id) (ownRecords (w .kiosk)) ≡ true → paired O (g .operation) (t .code) ≡ true → isRefused (receiveApdu O (w .kiosk) x (Error (g .id) (Local (t .code)) (t .shown))) ≡ false
+        passes : member (g .id) (ownRecords (w .kiosk)) ≡ true → paired O (g .operation) (t .code) ≡ true → isRefused (receiveApdu O (w .kiosk) x (Error (g .id) (Is (t .code)) (t .shown))) ≡ false
         passes h l =
             let s = same-code O N w (inv .kept) (g .id) (g .operation) m h in
             let n = paired-known O valid-O (g .operation) (t .code) l in
-            ap isRefused (pass (errorChecks O (w .kiosk) (g .id) (Local (t .code)) (t .shown)) _
+            ap isRefused (pass (errorChecks O (w .kiosk) (g .id) (Is (t .code)) (t .shown)) _
             (rw h, (class h, (rw n, (rw (s, l), (rw (← (extends .errors (t .code) n), t .octets, t .right), tt))))))
 
         stops : (e : Code) → t .code ≡ e → member (g .id) (ownRecords (w .kiosk)) ≡ true → paired O (g .operation) e ≡ false → (b : Bool) → known (errorOf O e) ≡ b
-            → receiveApdu O (w .kiosk) x (Error (g .id) (Local (t .code)) (t .shown)) ≡ refused (rejecting (Of (g .id)) 0x83 (unlistedProblem O e))
+            → receiveApdu O (w .kiosk) x (Error (g .id) (Is (t .code)) (t .shown)) ≡ refused (rejecting (Of (g .id)) 0x83 (unlistedProblem O e))
         stops e q h u true n = let s = same-code O N w (inv .kept) (g .id) (g .operation) m h in rw (q, h, class h, n, s, u)
         stops e q h u false n = rw (q, h, class h, n)
 

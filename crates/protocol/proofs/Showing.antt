@@ -7,7 +7,7 @@ use mathlib.Core.Logic.{_⊎_, inl, inr}
 use mathlib.Core.Option.{Option, some, none}
 use native.Mathlib.Omega.{arith}
 use lib.Dec.{eqb}
-use Rattle.records.specs.declared.Code.{Code}
+use Rattle.codes.specs.declared.Code.{Code}
 use Rattle.records.specs.declared.State.{State}
 use Rattle.records.specs.Records.{member}
 use Rattle.optable.specs.Lookup.{known}

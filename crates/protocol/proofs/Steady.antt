@@ -8,7 +8,7 @@ use native.Mathlib.Omega.{arith}
 use lib.Dec.{eqb}
 use borrow.Author.Tests.{leb-false}
 use Rattle.base.proofs.Tests.{cond-elim, and-true, and-left, and-right}
-use Rattle.records.specs.declared.Code.{Code}
+use Rattle.codes.specs.declared.Code.{Code}
 use Rattle.records.specs.declared.Record.{Record}
 use Rattle.records.specs.declared.Records.{Records}
 use Rattle.records.specs.declared.State.{State}
@@ -18,10 +18,9 @@ use Rattle.records.specs.State.{fresh, soundState, addOwn, addPeer, retireOwn, 
 use Rattle.records.proofs.Soundness.{Sound, SoundBoth, view-retired, view-added, added-is-sound, retired-is-sound, fresh-is-sound, sound-state}
 use Rattle.optable.specs.Validity.{valid}
 use Rattle.optable.specs.Lookup.{operationOf, listed}
+use Rattle.optable.proofs.NameLaws.{listed-code-right}
 use Rattle.apdu.specs.declared.Number.{Number}
 use Rattle.apdu.specs.declared.Number.the-variants.{Of, Absent}
-use Rattle.apdu.specs.declared.CodeField.{CodeField}
-use Rattle.apdu.specs.declared.CodeField.the-variants.{Local, Other}
 use Rattle.apdu.specs.Parse.{Apdu, badlyStructured, unrecognized, mistyped, parse, invoke as Invoke, result as Result, error as Error, reject as Reject}
 use Rattle.protocol.specs.Call.{own, peer, Call, receive, invoke, result, error, reject, forget, Refusal, plain, rejecting, refused, stateAfter}
 use Rattle.protocol.specs.Check.{covered, usable, isSilent, isFull, ownRecords, peerRecords}
@@ -29,7 +28,7 @@ use Rattle.protocol.specs.Receive.{fieldCode, isOperation, fault, invoke
 use Rattle.protocol.specs.Perform.{laterChecks, checks, done, perform, withOwn}
 use Rattle.protocol.specs.End.{gives, Fit, EachFit, OneEnd}
 use Rattle.protocol.proofs.Checks.{Pass, settle, never-given, avoids}
-use Rattle.protocol.proofs.Facts.{invoke-facts, arrived-invoke}
+use Rattle.protocol.proofs.Facts.{invoke-facts, arrived-invoke, table-valid, operation-listed}
 use Rattle.protocol.proofs.Coverage.{covered-without, covered-added}
 
 module _ (T : List ℕ) where
@@ -45,11 +44,13 @@ module _ (T : List ℕ) where
     known = ap (covered T) (view-retired d i) ∙ covered-without T i (view d) (h .known);
   }
 
-  side-added : {d : Records} (r : Record) → member (r .id) (view d) ≡ false → listed (operationOf T (r .code)) ≡ true → length (view d) < records → SteadySide d → SteadySide (added d r)
-  side-added {d} r new known room h = record {
-    sound = added-is-sound (h .sound) r room new;
-    known = ap (covered T) (view-added (h .sound) r room) ∙ covered-added T r (view d) (h .known) known;
-  }
+  side-added : {d : Records} (r : Record) → member (r .id) (view d) ≡ false → valid T ≡ true → listed (operationOf T (r .code)) ≡ true → length (view d) < records → SteadySide d → SteadySide (added d r)
+  side-added {d} r new v known room h =
+      let form = listed-code-right T v (r .code) known in
+      record {
+        sound = added-is-sound (h .sound) r room new form;
+        known = ap (covered T) (view-added (h .sound) r room form) ∙ covered-added T r (view d) (h .known) known;
+      }
 
   -- a side has room where a call that makes a record was not refused for it
   pub room-left : (b : Bool) (l : List Record) → b ≡ false → (not b && isFull l) ≡ false → length l < records
@@ -80,42 +81,38 @@ module _ (T : List ℕ) where
   steady-peer-retired : {s : State} (i : ℕ) → Steady s → Steady (retirePeer s (record { 0 = i }))
   steady-peer-retired i h = record { own = h .own; peer = side-retired i (h .peer) }
 
-  steady-own-added : (s : State) (i : ℕ) (c : Code) → member i (ownRecords s) ≡ false → listed (operationOf T c) ≡ true → (not (isSilent T c) && isFull (ownRecords s)) ≡ false
+  steady-own-added : (s : State) (i : ℕ) (c : Code) → member i (ownRecords s) ≡ false → valid T ≡ true → listed (operationOf T c) ≡ true → (not (isSilent T c) && isFull (ownRecords s)) ≡ false
       → Steady s → Steady (withOwn T s i c)
-  steady-own-added s i c new known room h =
+  steady-own-added s i c new v known room h =
       cond-elim Steady (isSilent T c) s (addOwn s (record { 0 = i }) c) (λ _. h)
-      (λ e. record { own = side-added (record { id = i; code = c }) new known (room-left (isSilent T c) (ownRecords s) e room) (h .own); peer = h .peer })
+      (λ e. record { own = side-added (record { id = i; code = c }) new v known (room-left (isSilent T c) (ownRecords s) e room) (h .own); peer = h .peer })
 
-  steady-peer-added : (s : State) (i : ℕ) (c : Code) → member i (peerRecords s) ≡ false → listed (operationOf T c) ≡ true → (not (isSilent T c) && isFull (peerRecords s)) ≡ false
+  steady-peer-added : (s : State) (i : ℕ) (c : Code) → member i (peerRecords s) ≡ false → valid T ≡ true → listed (operationOf T c) ≡ true → (not (isSilent T c) && isFull (peerRecords s)) ≡ false
       → Steady s → Steady (withPeer T s i c)
-  steady-peer-added s i c new known room h =
+  steady-peer-added s i c new v known room h =
       cond-elim Steady (isSilent T c) s (addPeer s (record { 0 = i }) c) (λ _. h)
-      (λ e. record { own = h .own; peer = side-added (record { id = i; code = c }) new known (room-left (isSilent T c) (peerRecords s) e room) (h .peer) })
+      (λ e. record { own = h .own; peer = side-added (record { id = i; code = c }) new v known (room-left (isSilent T c) (peerRecords s) e room) (h .peer) })
 
   -- ---- each call keeps it
 
-  operation-listed : (c : CodeField) → isOperation T c ≡ true → listed (operationOf T (fieldCode c)) ≡ true
-  operation-listed (Local c) h = h
-  operation-listed Other h = let z : _≡_ {A = ℕ} 0 1 = cc in absurd (omega arith)
-
-  steady-received : (s : State) (x : List ℕ) (p : Apdu) → Steady s → Steady (stateAfter s (receiveApdu T s x p))
+  steady-received : (s : State) (x : List ℕ) (p : Apdu) → valid T ≡ true → Steady s → Steady (stateAfter s (receiveApdu T s x p))
   unfolding receiveApdu
-  steady-received s x (badlyStructured p) h = h
-  steady-received s x unrecognized h = h
-  steady-received s x (mistyped i) h = h
-  steady-received s x (Invoke i l c v) h =
+  steady-received s x (badlyStructured p) w h = h
+  steady-received s x unrecognized w h = h
+  steady-received s x (mistyped i) w h = h
+  steady-received s x (Invoke i l c v) w h =
       settle (λ a. Steady (stateAfter s a)) (invokeChecks T s i l c v) _ (λ _. h)
-      (λ p. let f = arrived-invoke T s i l c v p in steady-peer-added s i (fieldCode c) (f .new) (operation-listed c (f .known)) (f .vacant) h)
-  steady-received s x (Result i b) h = settle (λ a. Steady (stateAfter s a)) (resultChecks T s i b) _ (λ _. h) (λ _. steady-own-retired i h)
-  steady-received s x (Error i e v) h = settle (λ a. Steady (stateAfter s a)) (errorChecks T s i e v) _ (λ _. h) (λ _. steady-own-retired i h)
-  steady-received s x (Reject Absent kind p) h = h
-  steady-received s x (Reject (Of i) kind p) h = cond-elim Steady (eqb kind 0x81) (retireOwn s (record { 0 = i })) s (λ _. steady-own-retired i h) (λ _. h)
+      (λ p. let f = arrived-invoke T s i l c v p in steady-peer-added s i (fieldCode c) (f .new) w (operation-listed T c (f .known)) (f .vacant) h)
+  steady-received s x (Result i b) w h = settle (λ a. Steady (stateAfter s a)) (resultChecks T s i b) _ (λ _. h) (λ _. steady-own-retired i h)
+  steady-received s x (Error i e v) w h = settle (λ a. Steady (stateAfter s a)) (errorChecks T s i e v) _ (λ _. h) (λ _. steady-own-retired i h)
+  steady-received s x (Reject Absent kind p) w h = h
+  steady-received s x (Reject (Of i) kind p) w h = cond-elim Steady (eqb kind 0x81) (retireOwn s (record { 0 = i })) s (λ _. steady-own-retired i h) (λ _. h)
 
   steady-done : (s : State) (c : Call) → Pass (checks T s c) → Steady s → Steady (stateAfter s (done T s c))
   unfolding done
-  steady-done s (receive x room) p h = steady-received s x (parse x) h
+  steady-done s (receive x room) p h = steady-received s x (parse x) (table-valid T s (receive x room) p) h
   steady-done s (invoke i c l v room) p h =
-      let f = invoke-facts T s i v room c l p in steady-own-added s i c (f .new) (f .known) (f .vacant) h
+      let f = invoke-facts T s i v room c l p in steady-own-added s i c (f .new) (table-valid T s (invoke i c l v room) p) (f .known) (f .vacant) h
   steady-done s (result i v room) p h = steady-peer-retired i h
   steady-done s (error i e v room) p h = steady-peer-retired i h
   steady-done s (reject i p room) q h = steady-peer-retired i h

@@ -2,7 +2,7 @@
 use Prim.Native.Nat.{ℕ}
 use mathlib.Core.List.{List, [], _∷_}
 use mathlib.Core.Option.{Option, some, none}
-use Rattle.records.specs.declared.Code.{Code}
+use Rattle.codes.specs.declared.Code.{Code}
 use Rattle.records.specs.State.{fresh}
 use Rattle.apdu.specs.declared.Number.the-variants.{Of, Absent}
 use Rattle.apdu.specs.Encode.{encodeInvoke, encodeResult, encodeError, encodeReject}
@@ -65,10 +65,10 @@ tableP =
 -- ---- calls
 
 abbrev seven : Code
-seven = record { 0 = 7 }
+seven = Local 7
 
 abbrev errorCode : ℕ → Code
-errorCode n = record { 0 = n }
+errorCode n = Local n
 
 abbrev three : List ℕ
 three = 0x02 ∷ 0x01 ∷ 0x03 ∷ []

@@ -10,7 +10,9 @@ use lib.ListN.{length, getD}
 use lib.Dec.{leb}
 use borrow.Author.Tests.{leb-true}
 use Rattle.base.proofs.Tests.{and-left, and-right}
-use Rattle.records.specs.declared.Code.{Code}
+use Rattle.codes.specs.declared.Code.{Code}
+use Rattle.codes.specs.declared.Code.the-variants.{Local, Global}
+use Rattle.codes.specs.Code.{codeRight}
 use Rattle.records.specs.declared.Record.{Record}
 use Rattle.records.specs.declared.Records.{Records}
 use Rattle.records.specs.declared.State.{State}
@@ -21,12 +23,12 @@ use Rattle.records.proofs.Soundness.{Sound, view-added}
 use Rattle.apdu.specs.declared.Number.{Number}
 use Rattle.apdu.specs.declared.Number.the-variants.{Of, Absent}
 use Rattle.apdu.proofs.FirstOctet.{first-reject}
-use Rattle.apdu.proofs.FieldRoundTrip.{NumberFits, ValueFits}
+use Rattle.apdu.proofs.FieldRoundTrip.{NumberFits, ValueFits, CodeFits}
 use Rattle.protocol.specs.Call.{Refusal, plain, rejecting, rejectWritten}
 use Rattle.protocol.specs.Check.{isFull, isSilent, ownRecords, peerRecords, valueWell, withinLimits}
 use Rattle.protocol.specs.Receive.{withPeer}
 use Rattle.protocol.specs.Perform.{withOwn}
-use Rattle.protocol.specs.Demand3.{SmallNumber}
+use Rattle.protocol.specs.Demand3.{SmallNumber, SmallCode}
 use Rattle.protocol.proofs.Steady.{Steady, room-left}
 
 -- ---- first octets
@@ -61,22 +63,27 @@ pub number-fits : (l : Number) → SmallNumber l → NumberFits l
 number-fits Absent h = tt
 number-fits (Of i) h = h
 
+pub code-fits : (c : Code) → SmallCode c → codeRight c ≡ true → CodeFits c
+unfolding codeRight
+code-fits (Local x) h r = h
+code-fits (Global n) h r = r
+
 -- ---- the records with a new one last, unless it is silent
 
-side-with : (b : Bool) {d : Records} (r : Record) → Sound d → (not b && isFull (view d)) ≡ false → view (cond b d (added d r)) ≡ cond b (view d) (view d ++ (r ∷ []))
-side-with true r h room = refl
-side-with false {d} r h room = view-added h r (room-left [] false (view d) refl room)
+side-with : (b : Bool) {d : Records} (r : Record) → Sound d → codeRight (r .code) ≡ true → (not b && isFull (view d)) ≡ false → view (cond b d (added d r)) ≡ cond b (view d) (view d ++ (r ∷ []))
+side-with true r h form room = refl
+side-with false {d} r h form room = view-added h r (room-left [] false (view d) refl room) form
 
-module _ (T : List ℕ) (s : State) (i : ℕ) (c : Code) (h : Steady T s) where
+module _ (T : List ℕ) (s : State) (i : ℕ) (c : Code) (h : Steady T s) (form : codeRight c ≡ true) where
   pub own-with : (not (isSilent T c) && isFull (ownRecords s)) ≡ false → ownRecords (withOwn T s i c) ≡ cond (isSilent T c) (ownRecords s) (ownRecords s ++ (record { id = i; code = c } ∷ []))
-  own-with room = go (isSilent T c) ∙ side-with (isSilent T c) (record { id = i; code = c }) (h .own .sound) room
+  own-with room = go (isSilent T c) ∙ side-with (isSilent T c) (record { id = i; code = c }) (h .own .sound) form room
     where
       go : (b : Bool) → ownRecords (cond b s (addOwn s (record { 0 = i }) c)) ≡ view (cond b (s .own) (added (s .own) (record { id = i; code = c })))
       go true = refl
       go false = refl
 
   pub peer-with : (not (isSilent T c) && isFull (peerRecords s)) ≡ false → peerRecords (withPeer T s i c) ≡ cond (isSilent T c) (peerRecords s) (peerRecords s ++ (record { id = i; code = c } ∷ []))
-  peer-with room = go (isSilent T c) ∙ side-with (isSilent T c) (record { id = i; code = c }) (h .peer .sound) room
+  peer-with room = go (isSilent T c) ∙ side-with (isSilent T c) (record { id = i; code = c }) (h .peer .sound) form room
     where
       go : (b : Bool) → peerRecords (cond b s (addPeer s (record { 0 = i }) c)) ≡ view (cond b (s .peer) (added (s .peer) (record { id = i; code = c })))
       go true = refl

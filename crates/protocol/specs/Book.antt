@@ -4,7 +4,8 @@ use mathlib.Core.Bool.{Bool, true, false, cond, not, _&&_, _||_}
 use mathlib.Core.List.{List, [], _∷_, _++_}
 use mathlib.Core.Option.{Option, some, none}
 use lib.Dec.{eqb}
-use Rattle.records.specs.declared.Code.{Code}
+use Rattle.codes.specs.declared.Code.{Code}
+use Rattle.codes.specs.declared.Code.the-variants.{Local}
 use Rattle.records.specs.declared.Record.{Record}
 use Rattle.records.specs.declared.State.{State}
 use Rattle.apdu.specs.declared.Number.the-variants.{Of, Absent}
@@ -37,8 +38,8 @@ eachOnce (x ∷ l) = not (among x l) && eachOnce l
 
 -- the code last noted with an id, 0 where there is none
 abbrev pub lastCode : ℕ → List Record → Code
-lastCode i [] = record { 0 = 0 }
-lastCode i (r ∷ l) = cond (among i (idsOf l)) (lastCode i l) (cond (eqb (r .id) i) (r .code) (record { 0 = 0 }))
+lastCode i [] = Local 0
+lastCode i (r ∷ l) = cond (among i (idsOf l)) (lastCode i l) (cond (eqb (r .id) i) (r .code) (Local 0))
 
 -- ---- the list of calls: each names its end
 

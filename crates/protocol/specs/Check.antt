@@ -5,7 +5,8 @@ use mathlib.Core.List.{List, [], _∷_}
 use mathlib.Core.Option.{Option, some, none}
 use lib.ListN.{length}
 use lib.Dec.{eqb, leb, ltb}
-use Rattle.records.specs.declared.Code.{Code}
+use Rattle.codes.specs.declared.Code.{Code}
+use Rattle.codes.specs.declared.Code.the-variants.{Local}
 use Rattle.records.specs.declared.Record.{Record}
 use Rattle.records.specs.declared.State.{State}
 use Rattle.records.specs.declared.Found.{Found}
@@ -50,7 +51,7 @@ peerRecords s = view (s .peer)
 -- the record's operation code; 0 where there is no record
 abbrev pub codeFound : Found → Code
 codeFound (Operation c) = c
-codeFound Nothing = record { 0 = 0 }
+codeFound Nothing = Local 0
 
 abbrev pub codeIn : List Record → ℕ → Code
 codeIn l i = codeFound (lookup i l)

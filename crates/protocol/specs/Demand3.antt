@@ -5,7 +5,8 @@ use mathlib.Core.Bool.{true, false, cond}
 use mathlib.Core.List.{List, List·Memᴰ as In}
 use mathlib.Core.Logic.{_↔_}
 use mathlib.Core.Option.{some}
-use Rattle.records.specs.declared.Code.{Code}
+use Rattle.codes.specs.declared.Code.{Code}
+use Rattle.codes.specs.declared.Code.the-variants.{Local, Global}
 use Rattle.records.specs.State.{fresh}
 use Rattle.optable.specs.Validity.{valid}
 use Rattle.optable.specs.Lookup.{Extends, paired, errorOf, known}
@@ -17,7 +18,7 @@ use Rattle.protocol.specs.Book.{among, eachOnce, idsOf, End, kiosk, cont
 
 -- ---- premises
 
--- ids and codes are numbers of 32 bits, as the code's types have it
+-- ids and local codes are numbers of 32 bits, as the code's types have it
 abbrev pub Small : ℕ → Type 0
 Small n = n < 2 ^ 32
 
@@ -25,11 +26,16 @@ abbrev pub SmallNumber : Number → Type 0
 SmallNumber Absent = Unit {0}
 SmallNumber (Of n) = Small n
 
+-- of a name nothing is asked: what is no right name is in no table
+abbrev pub SmallCode : Code → Type 0
+SmallCode (Local x) = Small x
+SmallCode (Global n) = Unit {0}
+
 abbrev pub InRange : Call → Type 0
 InRange (receive x room) = Unit {0}
-InRange (invoke i c l v room) = Small i × Small (c .0) × SmallNumber l
+InRange (invoke i c l v room) = Small i × SmallCode c × SmallNumber l
 InRange (result i v room) = Small i
-InRange (error i e v room) = Small i × Small (e .0)
+InRange (error i e v room) = Small i × SmallCode e
 InRange (reject i p room) = Small i
 InRange (forget side i) = Small i
 

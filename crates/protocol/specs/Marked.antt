@@ -3,13 +3,14 @@ use Prim.Native.Nat.{ℕ}
 use mathlib.Core.Path.{_≡_}
 use mathlib.Core.List.{List, [], _∷_, map}
 use mathlib.Core.Option.{some, none}
-use Rattle.records.specs.declared.Code.{Code}
+use Rattle.codes.specs.declared.Code.{Code}
+use Rattle.codes.specs.declared.Code.the-variants.{Local}
 use Rattle.records.specs.declared.Record.{Record}
 use Rattle.records.specs.declared.State.{State}
 use Rattle.records.specs.State.{fresh, addOwn, addPeer}
 use Rattle.apdu.specs.declared.Number.{Number}
 use Rattle.apdu.specs.declared.Number.the-variants.{Of, Absent}
-use Rattle.apdu.specs.declared.CodeField.the-variants.{Local}
+use Rattle.apdu.specs.declared.CodeField.the-variants.{Is}
 use Rattle.protocol.specs.Call.{Call, receive, invoke, resulted, erred, plain, rejecting, Answer, accepted, refused, writtenBy, stateAfter}
 use Rattle.protocol.specs.Check.{ownRecords, peerRecords}
 use Rattle.protocol.specs.Perform.{perform}
@@ -24,7 +25,7 @@ tableT =
     ∷ []
 
 abbrev seven : Code
-seven = record { 0 = 7 }
+seven = Local 7
 
 -- own record (5, 7) is live
 abbrev ownFive : State
@@ -70,10 +71,10 @@ examples =
     }
     -- P2: result, value 02 01 00, the last three of the 13 octets
     ∷ received (0xA2 ∷ 0x0B ∷ 0x02 ∷ 0x01 ∷ 0x05 ∷ 0x30 ∷ 0x06 ∷ 0x02 ∷ 0x01 ∷ 0x07 ∷ 0x02 ∷ 0x01 ∷ 0x00 ∷ [])
-    (accepted (some (resulted 5 (some (record { code = Local seven; value = record { at = 10; end = 13; octets = 0x02 ∷ 0x01 ∷ 0x00 ∷ [] } })) seven)) fresh []) [] []
+    (accepted (some (resulted 5 (some (record { code = Is seven; value = record { at = 10; end = 13; octets = 0x02 ∷ 0x01 ∷ 0x00 ∷ [] } })) seven)) fresh []) [] []
     -- P3: error 1, no value
     ∷ received (0xA3 ∷ 0x06 ∷ 0x02 ∷ 0x01 ∷ 0x05 ∷ 0x02 ∷ 0x01 ∷ 0x01 ∷ [])
-    (accepted (some (erred 5 (record { 0 = 1 }) none seven)) fresh []) [] []
+    (accepted (some (erred 5 (Local 1) none seven)) fresh []) [] []
     -- P4
     ∷ rejected (0xA2 ∷ 0x03 ∷ 0x02 ∷ 0x01 ∷ 0x05 ∷ []) (Of 5) 0x82 2 (0xA4 ∷ 0x06 ∷ 0x02 ∷ 0x01 ∷ 0x05 ∷ 0x82 ∷ 0x01 ∷ 0x02 ∷ [])
     -- P5

@@ -5,36 +5,38 @@ use mathlib.Core.List.{List, [], _∷_}
 use mathlib.Core.Option.{Option, some, none}
 use lib.ListN.{getD}
 use lib.Dec.{eqb}
-use Rattle.records.specs.declared.Code.{Code}
+use Rattle.codes.specs.declared.Code.{Code}
+use Rattle.codes.specs.declared.Code.the-variants.{Local}
 use Rattle.records.specs.declared.State.{State}
-use Rattle.records.specs.Records.{sameCode, member}
+use Rattle.codes.specs.Code.{sameCode}
+use Rattle.records.specs.Records.{member}
 use Rattle.records.specs.State.{addPeer, retireOwn}
 use Rattle.optable.specs.Lookup.{operationOf, listed, argumentOf, resultOf, errorOf, known, parameterOf, paired, childOf, hasChild}
 use Rattle.optable.specs.Value.{valueRight}
 use Rattle.apdu.specs.declared.Number.{Number}
 use Rattle.apdu.specs.declared.Number.the-variants.{Of, Absent}
 use Rattle.apdu.specs.declared.CodeField.{CodeField}
-use Rattle.apdu.specs.declared.CodeField.the-variants.{Local, Other}
+use Rattle.apdu.specs.declared.CodeField.the-variants.{Is, Other}
 use Rattle.apdu.specs.Field.{Part, octetsOf}
 use Rattle.apdu.specs.Parse.{CodedValue, bodyValue, Apdu, badlyStructured, unrecognized, mistyped, invoke, result, error, reject}
 use Rattle.protocol.specs.Call.{Indication, invoked, resulted, erred, rejectedU, rejectedP, Refusal, plain, rejecting, Answer, accepted, refused}
 use Rattle.protocol.specs.Check.{Check, answer, ownRecords, peerRecords, codeIn, isFull, classIn, isSilent, isClass, isLinked, linkedTo}
 
--- a code that is none of the table's has no number
+-- a code that is none of the table's counts as 0 where it is not asked for
 abbrev pub fieldCode : CodeField → Code
-fieldCode (Local c) = c
-fieldCode Other = record { 0 = 0 }
+fieldCode (Is c) = c
+fieldCode Other = Local 0
 
 abbrev pub isOperation : List ℕ → CodeField → Bool
-isOperation T (Local c) = listed (operationOf T c)
+isOperation T (Is c) = listed (operationOf T c)
 isOperation T Other = false
 
 abbrev pub isError : List ℕ → CodeField → Bool
-isError T (Local e) = known (errorOf T e)
+isError T (Is e) = known (errorOf T e)
 isError T Other = false
 
 abbrev pub isCodeOf : CodeField → Code → Bool
-isCodeOf (Local c) d = sameCode c d
+isCodeOf (Is c) d = sameCode c d
 isCodeOf Other d = false
 
 -- a code is present and is not the record's

@@ -1,4 +1,4 @@
--- Both counts are read.
+-- The three counts are read.
 use borrow.Author.Needs.{needs}
 use Rattle.optable.proofs.entry.counts_of.Statement.{statement}
 use Rattle.optable.proofs.entry.counts_of.Tie as tie
@@ -7,4 +7,6 @@ returns : tie.Need-returns
 returns c = cc
 
 pub counts-of-spec : {M : Type 1} → statement M
-counts-of-spec = tie.close (tie.spec (λ c κs. search needs) (λ c κs. search needs) (λ c κs. search needs) returns)
+counts-of-spec =
+    tie.close
+    (tie.spec (λ c κs. search needs) (λ c κs. search needs) (λ c κs. search needs) (λ c κs. search needs) returns)

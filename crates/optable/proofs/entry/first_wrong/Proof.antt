@@ -1,16 +1,16 @@
 -- The invariant: the walk stands where entry i starts, and the first wrong entry is the first of those left. The measure: entries left.
 use Prim.Native.Nat.{_≤_, _-_}
-use native.Mathlib.Omega.{arith}
-use mathlib.Core.Path.{_≡_, _∙_}
+use mathlib.Core.Path.{_≡_, ap, _∙_}
 use mathlib.Core.Bool.{not}
 use Rattle.base.proofs.Tests.{said-no, said-yes}
 use Rattle.codes.specs.Count.{seek}
-use Rattle.optable.specs.Read.{entryStart}
+use Rattle.optable.specs.Read.{headerOf, entryStart}
 use Rattle.optable.specs.Validity.{entryRight}
 use Rattle.optable.specs.Fault.{firstWrong}
 use Rattle.optable.proofs.LayoutLaws.{first-entry, header-there}
 use Rattle.optable.proofs.WalkLaws.{walk-stands, walk-near, walk-next, walk-last}
 use Rattle.optable.proofs.FaultLaws.{walk-starts, wrong-found, right-passed, walk-ended}
+use native.Mathlib.Omega.{arith}
 use borrow.Author.Needs.{needs}
 use Rattle.optable.proofs.entry.first_wrong.Statement.{statement}
 use Rattle.optable.proofs.entry.first_wrong.Tie as tie
@@ -23,13 +23,19 @@ abbrev μ-loop : tie.MeasureT-loop
 μ-loop table part n counts size at₀ before₀ i₀ at before i = n - i
 
 count-within-requires : tie.Need-count-within-requires Inv-loop μ-loop
-count-within-requires c κs = header-there _ (c .before .pre)
+count-within-requires c κs = (c .before .pre .1, omega (arith, ap headerOf (c .before .pre .1), header-there _ (c .before .pre .0)))
 
 counts-of-requires : tie.Need-counts-of-requires Inv-loop μ-loop
-counts-of-requires c κs = header-there _ (c .before .before .pre)
+counts-of-requires c κs = (c .before .before .pre .1, omega (arith, ap headerOf (c .before .before .pre .1), header-there _ (c .before .before .pre .0)))
+
+size-of-requires : tie.Need-size-of-requires Inv-loop μ-loop
+size-of-requires c κs = search needs
 
 start-within-requires : tie.Need-start-within-requires Inv-loop μ-loop
-start-within-requires c κs = header-there _ (c .before .before .before .before .pre)
+start-within-requires c κs = (c .before .before .before .before .pre .1, omega (arith, ap headerOf (c .before .before .before .before .pre .1), header-there _ (c .before .before .before .before .pre .0)), c .before .before .before .before .pre .2)
+
+cast-at : tie.Need-cast-at Inv-loop μ-loop
+cast-at c = search needs
 
 loop-holds : tie.Need-loop-holds Inv-loop μ-loop
 loop-holds c =
@@ -37,8 +43,14 @@ loop-holds c =
 
 entry-breach-requires : tie.Need-entry-breach-requires Inv-loop μ-loop
 entry-breach-requires c κs =
-    let loop = c .before in let at = loop .before in let counts = at .before .before in let count = counts .before in let start = count .before .before in
-    (walk-stands _ (start .pre) (count .count-within .ensures) (omega arith) (omega arith) (omega (arith, at .start-within .ensures)) (loop .loop .inv .1) (loop .loop .inv .2), counts .counts-of .ensures)
+    let loop = c .before in let at = loop .before in let counts = at .before .before in let count = counts .before in let start = count .before .before in (
+      walk-stands _ (start .pre .0) (count .count-within .ensures) (omega arith) (omega arith) (omega (arith, at .start-within .ensures)) (loop .loop .inv .1) (loop .loop .inv .2),
+      counts .counts-of .ensures,
+      omega (arith, count .count-within .ensures),
+    )
+
+is-unbroken-requires : tie.Need-is-unbroken-requires Inv-loop μ-loop
+is-unbroken-requires c κs = search needs
 
 returns : tie.Need-returns Inv-loop μ-loop
 returns c =
@@ -71,5 +83,4 @@ returns-2 c = walk-ended _ _ _ _ (c .before .loop .inv .3) (omega arith)
 pub first-wrong-spec : {M : Type 1} → statement M
 first-wrong-spec =
     tie.close
-    (tie.spec Inv-loop μ-loop count-within-requires counts-of-requires (λ c κs. search needs) start-within-requires (λ c. search needs) loop-holds
-    entry-breach-requires (λ c κs. search needs) returns add-at add-i loop-less loop-again returns-2)
+    (tie.spec Inv-loop μ-loop count-within-requires counts-of-requires size-of-requires start-within-requires cast-at loop-holds entry-breach-requires is-unbroken-requires returns add-at add-i loop-less loop-again returns-2)

@@ -1,8 +1,8 @@
 -- A part ends where the entry behind its last would start.
-use native.Mathlib.Omega.{arith}
 use Rattle.optable.proofs.ReadAnswers.{entry-far}
 use Rattle.optable.specs.Read.{entryStart}
 use Rattle.optable.specs.Validity.{behind}
+use native.Mathlib.Omega.{arith}
 use borrow.Author.Needs.{needs}
 use Rattle.optable.proofs.validity.behind.Statement.{statement}
 use Rattle.optable.proofs.validity.behind.Tie as tie
@@ -20,5 +20,4 @@ returns c = cc
 pub behind-spec : {M : Type 1} → statement M
 behind-spec =
     tie.close
-    (tie.spec (λ c κs. search needs) (λ c. search needs) (λ c κs. search needs) (λ c. search needs) (λ c κs. search needs) mul-result
-    add-result returns)
+    (tie.spec (λ c κs. search needs) (λ c. search needs) (λ c κs. search needs) (λ c. search needs) (λ c κs. search needs) mul-result add-result returns)
