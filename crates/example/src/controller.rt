@@ -4,11 +4,11 @@ use crate::TABLE;
 use crate::kiosk::number_of;
 use apdu::Value;
 use ber::integer::Integer;
+use codes::Code;
 use protocol::Indication;
 use protocol::Received;
 use protocol::Reception;
 use protocol::Requested;
-use records::Code;
 use records::PeerId;
 use records::State;
 

@@ -9,11 +9,11 @@ use ber::header::Header;
 use ber::header::header_of;
 use ber::integer::Integer;
 use ber::integer::integer_of;
+use codes::Code;
 use protocol::Indication;
 use protocol::Received;
 use protocol::Reception;
 use protocol::Requested;
-use records::Code;
 use records::OwnId;
 use records::State;
 

@@ -1,4 +1,5 @@
 // An entry in words: its name and its fields.
+use codes::Code;
 use optable::Error;
 use optable::Operation;
 use optable::Part;
@@ -9,7 +10,6 @@ use optable::read::first_at;
 use optable::read::operation_at;
 use optable::read::second_at;
 use optable::read::second_part;
-use records::Code;
 use text::out::decimal;
 use text::out::name;
 use text::out::octet;

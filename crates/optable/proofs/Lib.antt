@@ -9,7 +9,7 @@ mod ReadAnswers
 mod LayoutAnswers
 mod ValidityAnswers
 mod ExtensionAnswers
-mod ExtensionLaws
+pub mod ExtensionLaws
 mod LookupAnswers
 mod PairAnswers
 mod ValueAnswers

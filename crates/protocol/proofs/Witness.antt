@@ -3,6 +3,8 @@ use Prim.Native.Nat.{ℕ}
 use mathlib.Core.List.{List, [], _∷_}
 use mathlib.Core.Option.{Option, some, none}
 use Rattle.codes.specs.declared.Code.{Code}
+use Rattle.codes.specs.declared.Code.the-variants.{Local, Global}
+use Rattle.codes.specs.Code.{nameOf}
 use Rattle.records.specs.State.{fresh}
 use Rattle.apdu.specs.declared.Number.the-variants.{Of, Absent}
 use Rattle.apdu.specs.Encode.{encodeInvoke, encodeResult, encodeError, encodeReject}
@@ -62,10 +64,39 @@ tableP =
     ∷ 0x00 ∷ 0x00 ∷ 0x00 ∷ 0x00
     ∷ []
 
+-- edition 2: operation 2B 06 01 of class 2, argument and optional result of type 02, and error 2B 06 02, paired with it
+abbrev pub tableG : List ℕ
+tableG =
+    0xFF ∷ 0xFF ∷ 0x00 ∷ 0x02 ∷ 0x00 ∷ 0x01 ∷ 0x00 ∷ 0x18 ∷ 0x00 ∷ 0x01 ∷ 0x00 ∷ 0x20 ∷ 0x00 ∷ 0x01 ∷ 0x00 ∷ 0x26 ∷ 0x00 ∷ 0x00 ∷ 0x00 ∷ 0x2A ∷ 0x00 ∷ 0x02 ∷ 0x00 ∷ 0x2A
+    ∷ 0x00 ∷ 0x00 ∷ 0x00 ∷ 0x00 ∷ 0x02 ∷ 0x02 ∷ 0x02 ∷ 0x06
+    ∷ 0x00 ∷ 0x00 ∷ 0x00 ∷ 0x01 ∷ 0x00 ∷ 0x02
+    ∷ 0x00 ∷ 0x00 ∷ 0x00 ∷ 0x00
+    ∷ 0x03 ∷ 0x2B ∷ 0x06 ∷ 0x01 ∷ 0 ∷ 0 ∷ 0 ∷ 0 ∷ 0 ∷ 0 ∷ 0 ∷ 0 ∷ 0 ∷ 0 ∷ 0 ∷ 0 ∷ 0
+    ∷ 0x03 ∷ 0x2B ∷ 0x06 ∷ 0x02 ∷ 0 ∷ 0 ∷ 0 ∷ 0 ∷ 0 ∷ 0 ∷ 0 ∷ 0 ∷ 0 ∷ 0 ∷ 0 ∷ 0 ∷ 0
+    ∷ []
+
+-- the same with its names numbered otherwise and the operation idempotent, and operation 7 as well
+abbrev pub tableH : List ℕ
+tableH =
+    0xFF ∷ 0xFF ∷ 0x00 ∷ 0x02 ∷ 0x00 ∷ 0x02 ∷ 0x00 ∷ 0x18 ∷ 0x00 ∷ 0x01 ∷ 0x00 ∷ 0x28 ∷ 0x00 ∷ 0x01 ∷ 0x00 ∷ 0x2E ∷ 0x00 ∷ 0x00 ∷ 0x00 ∷ 0x32 ∷ 0x00 ∷ 0x02 ∷ 0x00 ∷ 0x32
+    ∷ 0x00 ∷ 0x00 ∷ 0x00 ∷ 0x07 ∷ 0x02 ∷ 0x02 ∷ 0x02 ∷ 0x02
+    ∷ 0x00 ∷ 0x00 ∷ 0x00 ∷ 0x01 ∷ 0x02 ∷ 0x02 ∷ 0x02 ∷ 0x0E
+    ∷ 0x00 ∷ 0x00 ∷ 0x00 ∷ 0x00 ∷ 0x00 ∷ 0x02
+    ∷ 0x00 ∷ 0x01 ∷ 0x00 ∷ 0x00
+    ∷ 0x03 ∷ 0x2B ∷ 0x06 ∷ 0x02 ∷ 0 ∷ 0 ∷ 0 ∷ 0 ∷ 0 ∷ 0 ∷ 0 ∷ 0 ∷ 0 ∷ 0 ∷ 0 ∷ 0 ∷ 0
+    ∷ 0x03 ∷ 0x2B ∷ 0x06 ∷ 0x01 ∷ 0 ∷ 0 ∷ 0 ∷ 0 ∷ 0 ∷ 0 ∷ 0 ∷ 0 ∷ 0 ∷ 0 ∷ 0 ∷ 0 ∷ 0
+    ∷ []
+
 -- ---- calls
 
 abbrev seven : Code
 seven = Local 7
+
+abbrev pub named1 : Code
+named1 = Global (nameOf (0x2B ∷ 0x06 ∷ 0x01 ∷ []))
+
+abbrev named2 : Code
+named2 = Global (nameOf (0x2B ∷ 0x06 ∷ 0x02 ∷ []))
 
 abbrev errorCode : ℕ → Code
 errorCode n = Local n
@@ -167,6 +198,20 @@ indefinite =
     ∷ giveResult 1 open30 ∷ giveResult 1 closed30 ∷ getResult 1 (some closed30)
     ∷ []
 
+-- an operation and an error by name, each of another index at the other end; a name that no operation has is refused
+abbrev pub named : List Event
+named =
+    at kiosk (invoke 1 named1 Absent three 100)
+    ∷ at controller (receive (encodeInvoke 1 Absent named1 (some three)) 11)
+    ∷ giveResult 1 zero02
+    ∷ at kiosk (receive (encodeResult 1 named1 (some zero02)) 11)
+    ∷ at kiosk (invoke 2 named1 Absent three 100)
+    ∷ at controller (receive (encodeInvoke 2 Absent named1 (some three)) 11)
+    ∷ at controller (error 2 named2 [] 100)
+    ∷ at kiosk (receive (encodeError 2 named2 none) 11)
+    ∷ at kiosk (invoke 3 named2 Absent three 100)
+    ∷ []
+
 -- an id asked twice: the repeat of the first answer is taken for the second
 abbrev reused : List Event
 reused = ask 1 ∷ hear 1 ∷ giveResult 1 zero02 ∷ getResult 1 (some zero02) ∷ ask 1 ∷ getResult 1 (some zero02) ∷ []
@@ -200,6 +245,7 @@ runs =
     ∷ record { atKiosk = tableL; atController = tableL; events = linked }
     ∷ record { atKiosk = tableS; atController = tableS; events = silent }
     ∷ record { atKiosk = tableP; atController = tableP; events = indefinite }
+    ∷ record { atKiosk = tableG; atController = tableH; events = named }
     ∷ record { atKiosk = tableO; atController = tableN; events = reused }
     ∷ record { atKiosk = tableO; atController = tableN; events = cramped }
     ∷ record { atKiosk = tableO; atController = tableN; events = forged }
@@ -223,6 +269,7 @@ told =
     ∷ record { refusals = none ∷ none ∷ none ∷ none ∷ []; shown = [] }
     ∷ record { refusals = none ∷ none ∷ none ∷ none ∷ []; shown = [] }
     ∷ record { refusals = none ∷ none ∷ some (plain 9) ∷ none ∷ none ∷ []; shown = 1 ∷ [] }
+    ∷ record { refusals = none ∷ none ∷ none ∷ none ∷ none ∷ none ∷ none ∷ none ∷ some (plain 4) ∷ []; shown = 1 ∷ 2 ∷ [] }
     ∷ record { refusals = none ∷ none ∷ none ∷ none ∷ none ∷ none ∷ []; shown = 1 ∷ 1 ∷ [] }
     ∷ record { refusals = none ∷ none ∷ none ∷ some (plain 2) ∷ []; shown = [] }
     ∷ record { refusals = none ∷ none ∷ []; shown = 1 ∷ [] }

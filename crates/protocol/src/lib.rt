@@ -3,7 +3,7 @@ use apdu::Body;
 use apdu::Number;
 use apdu::OwnLink;
 use apdu::Value;
-use records::Code;
+use codes::Code;
 use records::OwnId;
 use records::PeerId;
 use records::State;

@@ -1,5 +1,5 @@
 // What an accepted call changes of the records.
-use records::Code;
+use codes::Code;
 use records::OwnId;
 use records::PeerId;
 use records::State;

@@ -1,8 +1,8 @@
 // The walk over the live records of both sides, which looks the code of each up once.
+use codes::Code;
 use codes::Place;
 use optable::places::operation_place;
 use optable::read::operation_at;
-use records::Code;
 use records::State;
 use records::lent::live;
 ghost use mathlib.Core.Path.{_≡_};

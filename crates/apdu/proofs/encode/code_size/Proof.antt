@@ -23,6 +23,7 @@ unfolding codeField
 returns-2 c =
     let code = c .before .before .code2 in let n = code .given .0 .0 in
     (omega (arith, c .name-size .ensures .0, ap length (ap codeField (code .given .1)), name-size n), omega (arith, c .name-size .ensures .1))
+
 pub code-size-spec : {M : Type 1} → statement M
 code-size-spec =
     tie.close

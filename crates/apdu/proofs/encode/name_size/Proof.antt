@@ -11,6 +11,7 @@ returns c = let a = c .before .before .args in (omega (arith, contents-length (a
 
 returns-2 : tie.Need-returns-2
 returns-2 c = let a = c .before .before .before .args in (omega (arith, contents-length (a .name)), omega arith)
+
 pub name-size-spec : {M : Type 1} → statement M
 name-size-spec =
     tie.close

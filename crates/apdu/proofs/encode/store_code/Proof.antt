@@ -31,6 +31,7 @@ unfolding codeField
 returns-2 c =
     let code = c .before .before .before .before .before in
     stored-as (ap codeField (sym (code .code2 .given .1))) (c .before .before .store-name .ensures)
+
 pub store-code-spec : {M : Type 1} → statement M
 store-code-spec =
     tie.close

@@ -32,6 +32,7 @@ returns c =
     stored-as (ap (λ (x : List ℕ). (0x06 ∷ lengthOctets n) ++ x) whole ∙ element-by 0x06 n (nameContents (a .name)) few)
     (then-put (header .store-header .ensures) (put .put-octets .ensures)
     (omega (arith, ap length whole, ap length (element-by 0x06 n (nameContents (a .name)) few), length-append (0x06 ∷ lengthOctets n) (nameContents (a .name)))))
+
 pub store-name-spec : {M : Type 1} → statement M
 store-name-spec =
     tie.close

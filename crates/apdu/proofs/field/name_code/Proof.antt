@@ -13,6 +13,7 @@ returns c = simp (lt-leb _ _ (c .if1 .taken))
 returns-2 : tie.Need-returns-2
 unfolding nameCode
 returns-2 c = simp (le-leb _ _ (c .before .if1 .left), c .of .ensures)
+
 pub name-code-spec : {M : Type 1} → statement M
 name-code-spec =
     tie.close
