@@ -2,6 +2,7 @@ pub mod ListLaws
 pub mod SearchLaws
 pub mod TableLaws
 pub mod NameLaws
+pub mod Witness
 mod LayoutLaws
 mod WalkLaws
 mod FaultLaws

@@ -25,7 +25,7 @@ use Rattle.ber.proofs.FaultLaws.{finding-one, place-within}
 use Rattle.apdu.specs.declared.Number.{Number}
 use Rattle.apdu.specs.declared.Number.the-variants.{Of, Absent}
 use Rattle.apdu.specs.declared.CodeField.{CodeField}
-use Rattle.apdu.specs.declared.CodeField.the-variants.{Local, Other}
+use Rattle.apdu.specs.declared.CodeField.the-variants.{Is, Other}
 use Rattle.protocol.specs.Check.{codeFound, codeIn, isLinked, linkedTo, valueFinding, valueWell}
 use Rattle.protocol.specs.Receive.{fieldCode, isOperation, isError}
 use Rattle.rose.specs.Steps.{isFound, isLocal, foundBy, StandsAt, ValueChecked}
@@ -93,11 +93,11 @@ module _ (down most : ℕ) (o : most ≡ levels - down) (v : List ℕ) (b : Bool
 -- ---- a code of another form is none of the table's
 
 pub operation-is : (T : List ℕ) (c : CodeField) → (isLocal c && listed (operationOf T (fieldCode c))) ≡ isOperation T c
-operation-is T (Local c) = refl
+operation-is T (Is c) = refl
 operation-is T Other = refl
 
 pub error-is : (T : List ℕ) (c : CodeField) → (isLocal c && known (errorOf T (fieldCode c))) ≡ isError T c
-error-is T (Local c) = refl
+error-is T (Is c) = refl
 error-is T Other = refl
 
 -- ---- a linked id's parent, among the records l

@@ -7,12 +7,13 @@ use mathlib.Core.List.{List, [], _∷_, _++_}
 use lib.Dec.{eqb}
 use borrow.Author.Tests.{eq-eqb, ne-eqb, not-false}
 use Rattle.base.proofs.Tests.{cond-true, cond-false, or-true-left, or-true-right, or-cases}
-use Rattle.records.specs.declared.Code.{Code}
+use Rattle.codes.specs.declared.Code.{Code}
 use Rattle.records.specs.declared.Record.{Record}
 use Rattle.records.specs.declared.State.{State}
 use Rattle.records.specs.declared.Found.{Found}
 use Rattle.records.specs.declared.Found.the-variants.{Operation}
-use Rattle.records.specs.Records.{sameCode, member, lookup}
+use Rattle.codes.specs.Code.{sameCode}
+use Rattle.records.specs.Records.{member, lookup}
 use Rattle.optable.specs.declared.Part.the-variants.{Operations}
 use Rattle.codes.specs.declared.Place.the-variants.{At}
 use Rattle.optable.specs.Read.{operationAt}

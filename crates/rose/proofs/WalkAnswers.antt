@@ -10,12 +10,13 @@ use lib.ListN.{length, take, drop, getD, drop-of-length-le, length-append}
 use lib.Seq.{take-nil, take-append-seam, drop-append-le, drop-append-add}
 use borrow.Author.Tests.{ltb-true, ltb-false}
 use Rattle.base.proofs.Tests.{and-left, and-right, or-cases}
-use Rattle.records.specs.declared.Code.{Code}
+use Rattle.codes.specs.declared.Code.{Code}
 use Rattle.records.specs.declared.Record.{Record}
 use Rattle.records.specs.declared.Records.{Records}
 use Rattle.records.specs.declared.State.{State}
-use Rattle.records.specs.Records.{sameCode, view}
-use Rattle.records.proofs.Laws.{same-code-equal}
+use Rattle.codes.specs.Code.{sameCode}
+use Rattle.records.specs.Records.{codeOf, nameIn, view}
+use Rattle.codes.proofs.CodeLaws.{same-code-equal}
 use Rattle.records.proofs.Steps.{here, left-at}
 use Rattle.optable.specs.declared.Part.the-variants.{Operations}
 use Rattle.codes.specs.declared.Place.{Place}

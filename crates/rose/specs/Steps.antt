@@ -9,10 +9,11 @@ use Rattle.records.specs.declared.Records.{Records}
 use Rattle.records.specs.declared.State.{State}
 use Rattle.records.specs.declared.Found.{Found}
 use Rattle.records.specs.declared.Found.the-variants.{Operation, Nothing}
-use Rattle.records.specs.declared.Code.{Code}
+use Rattle.codes.specs.declared.Code.{Code}
 use Rattle.records.specs.declared.Record.{Record}
 use Rattle.records.specs.Limits.{levels}
-use Rattle.records.specs.Records.{sameCode, lookup}
+use Rattle.codes.specs.Code.{sameCode}
+use Rattle.records.specs.Records.{lookup}
 use Rattle.base.specs.Lists.{nonEmpty}
 use Rattle.ber.specs.Element.{place}
 use Rattle.optable.specs.declared.Part.the-variants.{Operations}
@@ -22,7 +23,7 @@ use Rattle.optable.specs.Lookup.{PlaceOf}
 use Rattle.apdu.specs.declared.Number.{Number}
 use Rattle.apdu.specs.declared.Number.the-variants.{Of, Absent}
 use Rattle.apdu.specs.declared.CodeField.{CodeField}
-use Rattle.apdu.specs.declared.CodeField.the-variants.{Local, Other}
+use Rattle.apdu.specs.declared.CodeField.the-variants.{Is, Other}
 use Rattle.apdu.specs.Parse.{Apdu, badlyStructured, unrecognized, mistyped, invoke, result, error, reject}
 use lib.ListN.{length, take, drop}
 use lib.Dec.{eqb, leb}
@@ -131,7 +132,7 @@ pub record Opens (T : List ℕ) (s : State) (asked : ℕ) (f : Found) (o : Openi
   pub stands : o .verdict ≡ Passes → StandsAt T (o .found) (o .entry)
 
 abbrev pub isLocal : CodeField → Bool
-isLocal (Local c) = true
+isLocal (Is c) = true
 isLocal Other = false
 
 -- the record of an id that may be missing

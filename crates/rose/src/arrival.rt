@@ -126,7 +126,7 @@ fn arrive_invoke(
     value: Value,
 ) -> Arrival
     requires { ⌜ (valid (now table) ≡ true) × StandsAt (now table) (opened .found) (opened .entry) ⌝ }
-    ensures { λ r. ⌜ ((own : Records) (codes : List ℕ) → opened .found ≡ foundBy (readOwnLink linked) (view own) → Arrives (now (table .entry)) (both own (lent count (now (ids .entry)) codes)) (now (x .entry)) (invoke (id .0) (readOwnLink linked) field (readValue (now (x .entry)) value)) r) ⌝ }
+    ensures { λ r. ⌜ ((own : Records) (lengths highs lows : List ℕ) → opened .found ≡ foundBy (readOwnLink linked) (view own) → Arrives (now (table .entry)) (both own (lent count (now (ids .entry)) lengths highs lows)) (now (x .entry)) (invoke (id .0) (readOwnLink linked) field (readValue (now (x .entry)) value)) r) ⌝ }
 {
     let code = field_code(field);
     let place = operation_place(table, code);
@@ -210,7 +210,7 @@ pub(crate) fn arrive(
     parsed: Parsed,
 ) -> Arrival
     requires { ⌜ (valid (now table) ≡ true) × (StandsAt (now table) (opened .found) (opened .entry) × (readParsed (now x) parsed ≡ parse (now x))) ⌝ }
-    ensures { λ r. ⌜ ((own : Records) (codes : List ℕ) → opened .found ≡ leadsTo (parse (now (x .entry))) (view own) → Arrives (now (table .entry)) (both own (lent count (now (ids .entry)) codes)) (now (x .entry)) (parse (now (x .entry))) r) ⌝ }
+    ensures { λ r. ⌜ ((own : Records) (lengths highs lows : List ℕ) → opened .found ≡ leadsTo (parse (now (x .entry))) (view own) → Arrives (now (table .entry)) (both own (lent count (now (ids .entry)) lengths highs lows)) (now (x .entry)) (parse (now (x .entry))) r) ⌝ }
 {
     match parsed {
         Parsed::BadlyStructured { at: _ } => arrive_wrong(x, 2, Number::Absent),

@@ -50,8 +50,8 @@ pub(crate) fn field_code(field: CodeField) -> Code
     ensures { λ r. ⌜ r ≡ fieldCode field ⌝ }
 {
     match field {
-        CodeField::Local(code) => code,
-        CodeField::Other => Code(0),
+        CodeField::Is(code) => code,
+        CodeField::Other => Code::Local(0),
     }
 }
 
@@ -59,7 +59,7 @@ fn is_local(field: CodeField) -> bool
     ensures { λ r. ⌜ r ≡ isLocal field ⌝ }
 {
     match field {
-        CodeField::Local(_) => true,
+        CodeField::Is(_) => true,
         CodeField::Other => false,
     }
 }
@@ -93,7 +93,7 @@ pub(crate) fn check_invoke(
     value: Value,
 ) -> Verdict
     requires { ⌜ (valid (now table) ≡ true) × (StandsAt (now table) (opened .found) (opened .entry) × PlaceOf (now table) Operations (fieldCode field) place) ⌝ }
-    ensures { λ r. ⌜ ((own : Records) (codes : List ℕ) → opened .found ≡ foundBy (readOwnLink linked) (view own) → readVerdict (rejecting (Of (id .0)) 0x81) r ≡ first (invokeChecks (now (table .entry)) (both own (lent count (now (ids .entry)) codes)) (id .0) (readOwnLink linked) field (readValue (now (x .entry)) value))) ⌝ }
+    ensures { λ r. ⌜ ((own : Records) (lengths highs lows : List ℕ) → opened .found ≡ foundBy (readOwnLink linked) (view own) → readVerdict (rejecting (Of (id .0)) 0x81) r ≡ first (invokeChecks (now (table .entry)) (both own (lent count (now (ids .entry)) lengths highs lows)) (id .0) (readOwnLink linked) field (readValue (now (x .entry)) value))) ⌝ }
 {
     let named = operation_in(table, place);
     let is_linked = is_own_linked(linked);

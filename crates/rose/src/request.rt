@@ -104,7 +104,7 @@ pub(crate) fn check_invoke(
     checked: ValueCheck,
     room: usize,
 ) -> Verdict
-    ensures { λ r. ⌜ ((codes : List ℕ) (peer : Records) → Opens (now (table .entry)) (both (lent count (now (ids .entry)) codes) peer) (length (view (lent count (now (ids .entry)) codes))) (foundBy (readPeerLink linked) (view peer)) opened → PlaceOf (now (table .entry)) Operations code place → ValueChecked inApdu (now (value .entry)) checked → Judged (now (table .entry)) (both (lent count (now (ids .entry)) codes) peer) (invoke (id .0) code (readPeerLink linked) (now (value .entry)) room) r) ⌝ }
+    ensures { λ r. ⌜ ((lengths highs lows : List ℕ) (peer : Records) → Opens (now (table .entry)) (both (lent count (now (ids .entry)) lengths highs lows) peer) (length (view (lent count (now (ids .entry)) lengths highs lows))) (foundBy (readPeerLink linked) (view peer)) opened → PlaceOf (now (table .entry)) Operations code place → ValueChecked inApdu (now (value .entry)) checked → Judged (now (table .entry)) (both (lent count (now (ids .entry)) lengths highs lows) peer) (invoke (id .0) code (readPeerLink linked) (now (value .entry)) room) r) ⌝ }
 {
     let named = operation_in(table, place);
     let fits = checked.fits;

@@ -40,17 +40,28 @@ pub(crate) enum Sought {
 fn record_of<'a>(
     own_count: usize,
     own_ids: &'a [u32; State::RECORDS],
-    own_codes: &'a [u32; State::RECORDS],
+    own_lengths: &'a [u8; State::RECORDS],
+    own_highs: &'a [u64; State::RECORDS],
+    own_lows: &'a [u64; State::RECORDS],
     peer_count: usize,
     peer_ids: &'a [u32; State::RECORDS],
-    peer_codes: &'a [u32; State::RECORDS],
+    peer_lengths: &'a [u8; State::RECORDS],
+    peer_highs: &'a [u64; State::RECORDS],
+    peer_lows: &'a [u64; State::RECORDS],
     sought: Sought,
 ) -> Found
-    ensures { λ r. ⌜ r ≡ soughtIn (both (lent «own_count» (now («own_ids» .entry)) (now («own_codes» .entry))) (lent «peer_count» (now («peer_ids» .entry)) (now («peer_codes» .entry)))) sought ⌝ }
+    ensures { λ r. ⌜ r ≡ soughtIn (both (lent «own_count» (now («own_ids» .entry)) (now («own_lengths» .entry)) (now («own_highs» .entry)) (now («own_lows» .entry))) (lent «peer_count» (now («peer_ids» .entry)) (now («peer_lengths» .entry)) (now («peer_highs» .entry)) (now («peer_lows» .entry)))) sought ⌝ }
 {
     match sought {
-        Sought::Own(id) => own_found(own_count, own_ids, own_codes, id),
-        Sought::Peer(id) => peer_found(peer_count, peer_ids, peer_codes, id),
+        Sought::Own(id) => own_found(own_count, own_ids, own_lengths, own_highs, own_lows, id),
+        Sought::Peer(id) => peer_found(
+            peer_count,
+            peer_ids,
+            peer_lengths,
+            peer_highs,
+            peer_lows,
+            id,
+        ),
         Sought::Nothing => Found::Nothing,
     }
 }
@@ -68,33 +79,46 @@ pub(crate) struct Opening {
 pub(crate) fn opening_of<'a>(
     own_count: usize,
     own_ids: &'a [u32; State::RECORDS],
-    own_codes: &'a [u32; State::RECORDS],
+    own_lengths: &'a [u8; State::RECORDS],
+    own_highs: &'a [u64; State::RECORDS],
+    own_lows: &'a [u64; State::RECORDS],
     peer_count: usize,
     peer_ids: &'a [u32; State::RECORDS],
-    peer_codes: &'a [u32; State::RECORDS],
+    peer_lengths: &'a [u8; State::RECORDS],
+    peer_highs: &'a [u64; State::RECORDS],
+    peer_lows: &'a [u64; State::RECORDS],
     table: &[u8],
     asked: usize,
     sought: Sought,
 ) -> Opening
-    ensures { λ r. ⌜ Opens (now (table .entry)) (both (lent «own_count» (now («own_ids» .entry)) (now («own_codes» .entry))) (lent «peer_count» (now («peer_ids» .entry)) (now («peer_codes» .entry)))) asked (soughtIn (both (lent «own_count» (now («own_ids» .entry)) (now («own_codes» .entry))) (lent «peer_count» (now («peer_ids» .entry)) (now («peer_codes» .entry)))) sought) r ⌝ }
+    ensures { λ r. ⌜ Opens (now (table .entry)) (both (lent «own_count» (now («own_ids» .entry)) (now («own_lengths» .entry)) (now («own_highs» .entry)) (now («own_lows» .entry))) (lent «peer_count» (now («peer_ids» .entry)) (now («peer_lengths» .entry)) (now («peer_highs» .entry)) (now («peer_lows» .entry)))) asked (soughtIn (both (lent «own_count» (now («own_ids» .entry)) (now («own_lengths» .entry)) (now («own_highs» .entry)) (now («own_lows» .entry))) (lent «peer_count» (now («peer_ids» .entry)) (now («peer_lengths» .entry)) (now («peer_highs» .entry)) (now («peer_lows» .entry)))) sought) r ⌝ }
 {
-    let is_sound = sound(own_count, own_ids, own_codes) & sound(peer_count, peer_ids, peer_codes);
+    let is_sound = sound(own_count, own_ids, own_lengths, own_highs, own_lows)
+        & sound(peer_count, peer_ids, peer_lengths, peer_highs, peer_lows);
     let found = record_of(
         own_count,
         own_ids,
-        own_codes,
+        own_lengths,
+        own_highs,
+        own_lows,
         peer_count,
         peer_ids,
-        peer_codes,
+        peer_lengths,
+        peer_highs,
+        peer_lows,
         sought,
     );
     let walked = walk_records(
         own_count,
         own_ids,
-        own_codes,
+        own_lengths,
+        own_highs,
+        own_lows,
         peer_count,
         peer_ids,
-        peer_codes,
+        peer_lengths,
+        peer_highs,
+        peer_lows,
         table,
         asked,
         code_found(found),
@@ -125,7 +149,7 @@ pub(crate) fn code_found(found: Found) -> Code
 {
     match found {
         Found::Operation(code) => code,
-        Found::Nothing => Code(0),
+        Found::Nothing => Code::Local(0),
     }
 }
 
@@ -196,7 +220,7 @@ pub(crate) fn is_no_child(table: &[u8], linked: bool, parent: u16, child: Place)
 
 // Whether a class that makes a record finds its side full.
 pub(crate) fn lacks_room(class: u8, count: usize, ids: &[u32; State::RECORDS]) -> bool
-    ensures { λ r. ⌜ ((codes : List ℕ) → r ≡ (not (eqb class 5) && isFull (view (lent count (now (ids .entry)) codes)))) ⌝ }
+    ensures { λ r. ⌜ ((lengths highs lows : List ℕ) → r ≡ (not (eqb class 5) && isFull (view (lent count (now (ids .entry)) lengths highs lows)))) ⌝ }
 {
     if class == 5 {
         return false;

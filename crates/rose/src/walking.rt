@@ -4,14 +4,14 @@ use codes::Place;
 use optable::places::operation_place;
 use optable::read::operation_at;
 use records::State;
+use records::lent::code_at;
 use records::lent::live;
 ghost use mathlib.Core.Path.{_≡_};
 ghost use mathlib.Core.Bool.{cond, _&&_};
 ghost use Prim.Native.Nat.{_+_, _-_, _≤_, _<_};
 ghost use lib.Dec.{eqb, ltb};
-ghost use lib.ListN.{getD};
 ghost use Rattle.records.specs.Limits.{records};
-ghost use Rattle.records.specs.Records.{lent};
+ghost use Rattle.records.specs.Records.{codeOf, nameIn, lent};
 ghost use Rattle.optable.specs.Read.{classAt};
 ghost use Rattle.rose.specs.Steps.{both, live, Walked};
 
@@ -26,19 +26,23 @@ pub(crate) struct Walk {
 }
 
 // The code of live record `i`, own before peer, of which `own` are own.
-fn code_at<'a>(
+fn code_of<'a>(
     own: usize,
-    own_codes: &'a [u32; State::RECORDS],
-    peer_codes: &'a [u32; State::RECORDS],
+    own_lengths: &'a [u8; State::RECORDS],
+    own_highs: &'a [u64; State::RECORDS],
+    own_lows: &'a [u64; State::RECORDS],
+    peer_lengths: &'a [u8; State::RECORDS],
+    peer_highs: &'a [u64; State::RECORDS],
+    peer_lows: &'a [u64; State::RECORDS],
     i: usize,
 ) -> Code
     requires { ⌜ (own ≤ records) × (i < own + records) ⌝ }
-    ensures { λ r. ⌜ r ≡ record { 0 = cond (ltb i own) (getD (now («own_codes» .entry)) i 0) (getD (now («peer_codes» .entry)) (i - own) 0) } ⌝ }
+    ensures { λ r. ⌜ r ≡ codeOf (cond (ltb i own) (nameIn (now («own_lengths» .entry)) (now («own_highs» .entry)) (now («own_lows» .entry)) i) (nameIn (now («peer_lengths» .entry)) (now («peer_highs» .entry)) (now («peer_lows» .entry)) (i - own))) ⌝ }
 {
     if i < own {
-        return Code(own_codes[i]);
+        return code_at(own_lengths, own_highs, own_lows, i);
     }
-    Code(peer_codes[i - own])
+    code_at(peer_lengths, peer_highs, peer_lows, i - own)
 }
 
 // Whether the operation at entry `i` is of class 1, if that is asked.
@@ -64,15 +68,19 @@ fn chosen(same: bool, this: u16, other: u16) -> u16
 pub(crate) fn walk_records<'a>(
     own_count: usize,
     own_ids: &'a [u32; State::RECORDS],
-    own_codes: &'a [u32; State::RECORDS],
+    own_lengths: &'a [u8; State::RECORDS],
+    own_highs: &'a [u64; State::RECORDS],
+    own_lows: &'a [u64; State::RECORDS],
     peer_count: usize,
     peer_ids: &'a [u32; State::RECORDS],
-    peer_codes: &'a [u32; State::RECORDS],
+    peer_lengths: &'a [u8; State::RECORDS],
+    peer_highs: &'a [u64; State::RECORDS],
+    peer_lows: &'a [u64; State::RECORDS],
     table: &[u8],
     asked: usize,
     code: Code,
 ) -> Walk
-    ensures { λ r. ⌜ Walked (now (table .entry)) (live (both (lent «own_count» (now («own_ids» .entry)) (now («own_codes» .entry))) (lent «peer_count» (now («peer_ids» .entry)) (now («peer_codes» .entry))))) asked code r ⌝ }
+    ensures { λ r. ⌜ Walked (now (table .entry)) (live (both (lent «own_count» (now («own_ids» .entry)) (now («own_lengths» .entry)) (now («own_highs» .entry)) (now («own_lows» .entry))) (lent «peer_count» (now («peer_ids» .entry)) (now («peer_lengths» .entry)) (now («peer_highs» .entry)) (now («peer_lows» .entry))))) asked code r ⌝ }
 {
     let own = live(own_count, own_ids);
     let n = own + live(peer_count, peer_ids);
@@ -80,7 +88,16 @@ pub(crate) fn walk_records<'a>(
     let mut entry: u16 = 0;
     let mut i: usize = 0;
     while i < n {
-        let there = code_at(own, own_codes, peer_codes, i);
+        let there = code_of(
+            own,
+            own_lengths,
+            own_highs,
+            own_lows,
+            peer_lengths,
+            peer_highs,
+            peer_lows,
+            i,
+        );
         let Place::At(at) = operation_place(table, there) else {
             return Walk {
                 covered: false,

@@ -84,4 +84,6 @@ returns-6 c =
 pub first-fault-spec : {M : Type 1} → statement M
 first-fault-spec =
     tie.close
-    (tie.spec (λ c κs. search needs) (λ c κs. search needs) returns part-fault-requires (λ c κs. search needs) returns-2 part-fault-requires-2 (λ c κs. search needs) returns-3 part-fault-requires-3 (λ c κs. search needs) returns-4 part-fault-requires-4 (λ c κs. search needs) returns-5 part-fault-requires-5 returns-6)
+    (tie.spec (λ c κs. search needs) (λ c κs. search needs) returns part-fault-requires (λ c κs. search needs) returns-2 part-fault-requires-2
+    (λ c κs. search needs) returns-3 part-fault-requires-3 (λ c κs. search needs) returns-4 part-fault-requires-4 (λ c κs. search needs)
+    returns-5 part-fault-requires-5 returns-6)

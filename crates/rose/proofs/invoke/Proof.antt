@@ -33,8 +33,8 @@ call c = invoke (c .args .id .0) (c .args .code) (readPeerLink (c .args .linked)
 verdict : (c : tie.After-check-invoke) → Judged (start c .args .table .now) (start c .args .t1) (call (start c)) (c .check-invoke .result)
 verdict c =
     let opened = placed c .before in let b = start c .args in let T = b .table .now in let s = b .t1 in
-    c .check-invoke .ensures (s .own .codes) (s .peer)
-    (opens-as T s _ _ _ _ _ (opened .before .before .live .ensures ∙ live-length (s .own .count) (s .own .ids) (s .own .codes)) (opened .before .peer-parent .ensures s) (opened .opening-of .ensures))
+    c .check-invoke .ensures (s .own .lengths) (s .own .highs) (s .own .lows) (s .peer)
+    (opens-as T s _ _ _ _ _ (opened .before .before .live .ensures ∙ live-length (s .own .count) (s .own .ids) (s .own .lengths) (s .own .highs) (s .own .lows)) (opened .before .peer-parent .ensures s) (opened .opening-of .ensures))
     (placed c .operation-place .ensures) (value-checked c .check-value .ensures inApdu refl)
 
 returns : tie.Need-returns

@@ -61,7 +61,7 @@ returns-2 : tie.Need-returns-2
 returns-2 c =
     let changed = c .before in let written = changed .before .before .before in let arrived = written .before .before in let told = arrived .before .before .before in
     let checked = told .before .before in let b = start checked .args in
-    received (b .table .now) (b .t1) (b .apdu .now) (b .out .now) _ (verdict checked) (passes told) (arrived .arrive .result) (arrived .arrive .ensures (b .t1 .own) (b .t1 .peer .codes) (leads checked (passes told))) _ (changed .changed .ensures) _ _
+    received (b .table .now) (b .t1) (b .apdu .now) (b .out .now) _ (verdict checked) (passes told) (arrived .arrive .result) (arrived .arrive .ensures (b .t1 .own) (b .t1 .peer .lengths) (b .t1 .peer .highs) (b .t1 .peer .lows) (leads checked (passes told))) _ (changed .changed .ensures) _ _
     (written .write-answer .ensures) _ (c .fault-in .ensures (b .apdu .now) ∙ ap faultIn (parsed checked (passes told)))
 
 pub receive-spec : {M : Type 1} → statement M

@@ -36,4 +36,6 @@ returns-5 c =
 pub fields-breach-spec : {M : Type 1} → statement M
 fields-breach-spec =
     tie.close
-    (tie.spec (λ c. search needs) operation-at-breach-requires (λ c. search needs) error-at-breach-requires (λ c. search needs) (λ c κs. search needs) (λ c. search needs) (λ c κs. search needs) (λ c. search needs) name-within-requires (λ c κs. search needs) (λ c κs. search needs) returns returns-2 returns-3 returns-4 returns-5)
+    (tie.spec (λ c. search needs) operation-at-breach-requires (λ c. search needs) error-at-breach-requires (λ c. search needs)
+    (λ c κs. search needs) (λ c. search needs) (λ c κs. search needs) (λ c. search needs) name-within-requires (λ c κs. search needs)
+    (λ c κs. search needs) returns returns-2 returns-3 returns-4 returns-5)

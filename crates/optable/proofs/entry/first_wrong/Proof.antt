@@ -83,4 +83,5 @@ returns-2 c = walk-ended _ _ _ _ (c .before .loop .inv .3) (omega arith)
 pub first-wrong-spec : {M : Type 1} → statement M
 first-wrong-spec =
     tie.close
-    (tie.spec Inv-loop μ-loop count-within-requires counts-of-requires size-of-requires start-within-requires cast-at loop-holds entry-breach-requires is-unbroken-requires returns add-at add-i loop-less loop-again returns-2)
+    (tie.spec Inv-loop μ-loop count-within-requires counts-of-requires size-of-requires start-within-requires cast-at loop-holds
+    entry-breach-requires is-unbroken-requires returns add-at add-i loop-less loop-again returns-2)

@@ -41,4 +41,6 @@ returns-5 c = new-stands _ _ _ (c .before .before .before .enum-told5 .given .1)
 pub is-standing-spec : {M : Type 1} → statement M
 is-standing-spec =
     tie.close
-    (tie.spec (λ c. search needs) (λ c κs. search needs) (λ c. search needs) (λ c κs. search needs) (λ c. search needs) (λ c κs. search needs) (λ c. search needs) (λ c κs. search needs) (λ c. search needs) start-within-requires (λ c. search needs) name-within-requires is-new-name-requires returns returns-2 returns-3 returns-4 returns-5)
+    (tie.spec (λ c. search needs) (λ c κs. search needs) (λ c. search needs) (λ c κs. search needs) (λ c. search needs) (λ c κs. search needs)
+    (λ c. search needs) (λ c κs. search needs) (λ c. search needs) start-within-requires (λ c. search needs) name-within-requires
+    is-new-name-requires returns returns-2 returns-3 returns-4 returns-5)

@@ -47,4 +47,5 @@ returns-4 c =
 pub pair-breach-spec : {M : Type 1} → statement M
 pair-breach-spec =
     tie.close
-    (tie.spec two-within-requires returns (λ c. search needs) two-within-requires-2 returns-2 class-within-requires (λ c κs. search needs) returns-3 returns-4)
+    (tie.spec two-within-requires returns (λ c. search needs) two-within-requires-2 returns-2 class-within-requires (λ c κs. search needs)
+    returns-3 returns-4)

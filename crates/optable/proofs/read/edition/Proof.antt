@@ -15,6 +15,4 @@ returns-3 : tie.Need-returns-3
 returns-3 c = second-edition _ (c .before .before .before .two .ensures) (omega arith) (c .before .two2 .ensures) (omega arith)
 
 pub edition-spec : {M : Type 1} → statement M
-edition-spec =
-    tie.close
-    (tie.spec (λ c κs. search needs) returns (λ c κs. search needs) returns-2 returns-3)
+edition-spec = tie.close (tie.spec (λ c κs. search needs) returns (λ c κs. search needs) returns-2 returns-3)

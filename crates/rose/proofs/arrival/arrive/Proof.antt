@@ -19,72 +19,72 @@ use Rattle.rose.proofs.arrival.arrive.Tie as tie
 
 -- the state with this own side, whose peer side is lent, whatever its codes are
 abbrev lent-state : tie.Start → Records → List ℕ → State
-lent-state c own codes = both own (lent (c .args .count) (c .args .ids .now) codes)
+lent-state c own lengths highs lows = both own (lent (c .args .count) (c .args .ids .now) lengths highs lows)
 
 returns : tie.Need-returns
-returns c = λ own codes e.
+returns c = λ own lengths highs lows e.
     let told = c .before in let start = told .before .before .before .before in let p = told .enum-told .given .0 .0 in
-    let T = start .args .table .now in let x = start .args .x .now in let s = lent-state start own codes in
+    let T = start .args .table .now in let x = start .args .x .now in let s = lent-state start own lengths highs lows in
     arrives-wrong T s x (start .args .parsed) (start .pre .1 .1) (BadlyStructured p) (cc) _ (fault x 2 Absent) (on-structure T s x p) (c .arrive-wrong .ensures s)
 
 returns-2 : tie.Need-returns-2
-returns-2 c = λ own codes e.
-    let start = c .before .before .before .before .before in let T = start .args .table .now in let x = start .args .x .now in let s = lent-state start own codes in
+returns-2 c = λ own lengths highs lows e.
+    let start = c .before .before .before .before .before in let T = start .args .table .now in let x = start .args .x .now in let s = lent-state start own lengths highs lows in
     arrives-wrong T s x (start .args .parsed) (start .pre .1 .1) Unrecognized (cc) _ (fault x 0 Absent) (on-kind T s x) (c .arrive-wrong2 .ensures s)
 
 returns-3 : tie.Need-returns-3
-returns-3 c = λ own codes e.
+returns-3 c = λ own lengths highs lows e.
     let parsed = c .before .before in let start = parsed .before .before .before .before in let i = parsed .parsed .given .0 .0 in
-    let T = start .args .table .now in let x = start .args .x .now in let s = lent-state start own codes in
+    let T = start .args .table .now in let x = start .args .x .now in let s = lent-state start own lengths highs lows in
     arrives-wrong T s x (start .args .parsed) (start .pre .1 .1) (Mistyped i) (cc) _ (fault x 1 i) (on-fields T s x i) (c .arrive-wrong3 .ensures s)
 
 returns-4 : tie.Need-returns-4
 unfolding readParsed
-returns-4 c = λ own codes e.
+returns-4 c = λ own lengths highs lows e.
     let parsed = c .before .before in let start = parsed .before .before .before .before in let g = parsed .parsed2 .given .0 in let b = start .args in
     let q = Invoke (g .0) (g .1 .0) (g .1 .1 .0) (g .1 .1 .1 .0) in let p : b .parsed ≡ q = cc in
-    arrives-as (b .table .now) (lent-state start own codes) (b .x .now) (b .parsed) (start .pre .1 .1) q p _
-    (c .arrive-invoke .ensures own codes (leads-as (b .x .now) (b .parsed) (start .pre .1 .1) q p (b .opened .found) (view own) e))
+    arrives-as (b .table .now) (lent-state start own lengths highs lows) (b .x .now) (b .parsed) (start .pre .1 .1) q p _
+    (c .arrive-invoke .ensures own lengths highs lows (leads-as (b .x .now) (b .parsed) (start .pre .1 .1) q p (b .opened .found) (view own) e))
 
 returns-5 : tie.Need-returns-5
 unfolding readParsed
-returns-5 c = λ own codes e.
+returns-5 c = λ own lengths highs lows e.
     let parsed = c .before .before in let start = parsed .before .before .before .before in let g = parsed .parsed3 .given .0 in let b = start .args in
     let q = Result (g .0) (g .1 .0) in let p : b .parsed ≡ q = cc in
-    arrives-as (b .table .now) (lent-state start own codes) (b .x .now) (b .parsed) (start .pre .1 .1) q p _
-    (c .arrive-result .ensures (lent-state start own codes) (leads-as (b .x .now) (b .parsed) (start .pre .1 .1) q p (b .opened .found) (view own) e))
+    arrives-as (b .table .now) (lent-state start own lengths highs lows) (b .x .now) (b .parsed) (start .pre .1 .1) q p _
+    (c .arrive-result .ensures (lent-state start own lengths highs lows) (leads-as (b .x .now) (b .parsed) (start .pre .1 .1) q p (b .opened .found) (view own) e))
 
 returns-6 : tie.Need-returns-6
 unfolding readParsed
-returns-6 c = λ own codes e.
+returns-6 c = λ own lengths highs lows e.
     let parsed = c .before .before in let start = parsed .before .before .before .before in let g = parsed .parsed4 .given .0 in let b = start .args in
     let q = Error (g .0) (g .1 .0) (g .1 .1 .0) in let p : b .parsed ≡ q = cc in
-    arrives-as (b .table .now) (lent-state start own codes) (b .x .now) (b .parsed) (start .pre .1 .1) q p _
-    (c .arrive-error .ensures (lent-state start own codes) (leads-as (b .x .now) (b .parsed) (start .pre .1 .1) q p (b .opened .found) (view own) e))
+    arrives-as (b .table .now) (lent-state start own lengths highs lows) (b .x .now) (b .parsed) (start .pre .1 .1) q p _
+    (c .arrive-error .ensures (lent-state start own lengths highs lows) (leads-as (b .x .now) (b .parsed) (start .pre .1 .1) q p (b .opened .found) (view own) e))
 
 returns-7 : tie.Need-returns-7
-returns-7 c = λ own codes e.
+returns-7 c = λ own lengths highs lows e.
     let parsed = c .before .before in let start = parsed .before .before .before .before in let g = parsed .parsed5 .given .0 in
-    indicated-as (start .args .table .now) (lent-state start own codes) (start .args .x .now) (start .args .parsed) (start .pre .1 .1) (InvokeReject (g .0) (g .1 .0)) (cc) _ (Retires (g .0)) (InvokeRejected (g .0) (g .1 .0))
-    (on-invoke-reject (start .args .table .now) (lent-state start own codes) (start .args .x .now) (g .0) (g .1 .0)) (c .indicated .ensures)
+    indicated-as (start .args .table .now) (lent-state start own lengths highs lows) (start .args .x .now) (start .args .parsed) (start .pre .1 .1) (InvokeReject (g .0) (g .1 .0)) (cc) _ (Retires (g .0)) (InvokeRejected (g .0) (g .1 .0))
+    (on-invoke-reject (start .args .table .now) (lent-state start own lengths highs lows) (start .args .x .now) (g .0) (g .1 .0)) (c .indicated .ensures)
 
 returns-8 : tie.Need-returns-8
-returns-8 c = λ own codes e.
+returns-8 c = λ own lengths highs lows e.
     let parsed = c .before .before in let start = parsed .before .before .before .before in let g = parsed .parsed6 .given .0 in
-    indicated-as (start .args .table .now) (lent-state start own codes) (start .args .x .now) (start .args .parsed) (start .pre .1 .1) (ResultReject (g .0) (g .1 .0)) (cc) _ Unchanged (ResultRejected (g .0) (g .1 .0))
-    (on-result-reject (start .args .table .now) (lent-state start own codes) (start .args .x .now) (g .0) (g .1 .0)) (c .told .ensures)
+    indicated-as (start .args .table .now) (lent-state start own lengths highs lows) (start .args .x .now) (start .args .parsed) (start .pre .1 .1) (ResultReject (g .0) (g .1 .0)) (cc) _ Unchanged (ResultRejected (g .0) (g .1 .0))
+    (on-result-reject (start .args .table .now) (lent-state start own lengths highs lows) (start .args .x .now) (g .0) (g .1 .0)) (c .told .ensures)
 
 returns-9 : tie.Need-returns-9
-returns-9 c = λ own codes e.
+returns-9 c = λ own lengths highs lows e.
     let parsed = c .before .before in let start = parsed .before .before .before .before in let g = parsed .parsed7 .given .0 in
-    indicated-as (start .args .table .now) (lent-state start own codes) (start .args .x .now) (start .args .parsed) (start .pre .1 .1) (ErrorReject (g .0) (g .1 .0)) (cc) _ Unchanged (ErrorRejected (g .0) (g .1 .0))
-    (on-error-reject (start .args .table .now) (lent-state start own codes) (start .args .x .now) (g .0) (g .1 .0)) (c .told2 .ensures)
+    indicated-as (start .args .table .now) (lent-state start own lengths highs lows) (start .args .x .now) (start .args .parsed) (start .pre .1 .1) (ErrorReject (g .0) (g .1 .0)) (cc) _ Unchanged (ErrorRejected (g .0) (g .1 .0))
+    (on-error-reject (start .args .table .now) (lent-state start own lengths highs lows) (start .args .x .now) (g .0) (g .1 .0)) (c .told2 .ensures)
 
 returns-10 : tie.Need-returns-10
-returns-10 c = λ own codes e.
+returns-10 c = λ own lengths highs lows e.
     let parsed = c .before .before in let start = parsed .before .before .before .before in let g = parsed .parsed8 .given .0 in
-    indicated-as (start .args .table .now) (lent-state start own codes) (start .args .x .now) (start .args .parsed) (start .pre .1 .1) (ParsedGeneral (g .0) (g .1 .0)) (cc) _ Unchanged (GeneralReject (g .0) (g .1 .0))
-    (on-general-reject (start .args .table .now) (lent-state start own codes) (start .args .x .now) (g .0) (g .1 .0)) (c .told3 .ensures)
+    indicated-as (start .args .table .now) (lent-state start own lengths highs lows) (start .args .x .now) (start .args .parsed) (start .pre .1 .1) (ParsedGeneral (g .0) (g .1 .0)) (cc) _ Unchanged (GeneralReject (g .0) (g .1 .0))
+    (on-general-reject (start .args .table .now) (lent-state start own lengths highs lows) (start .args .x .now) (g .0) (g .1 .0)) (c .told3 .ensures)
 
 pub arrive-spec : {M : Type 1} → statement M
 arrive-spec =

@@ -1,7 +1,7 @@
 -- 0, 1, 2, 3, 4.
 use mathlib.Core.Path.{_≡_, refl, subst, _∙_}
 use mathlib.Core.Bool.{true}
-use Rattle.records.specs.declared.Code.{Code}
+use Rattle.codes.specs.declared.Code.{Code}
 use Rattle.optable.specs.declared.Part.the-variants.{Errors}
 use Rattle.optable.specs.Validity.{valid}
 use Rattle.optable.specs.Lookup.{errorOf, PlaceOf}

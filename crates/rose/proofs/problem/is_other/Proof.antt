@@ -1,6 +1,6 @@
 -- A code of another form is not the record's.
-use Rattle.records.specs.Records.{sameCode}
-use Rattle.records.specs.declared.Code.{Code}
+use Rattle.codes.specs.Code.{sameCode}
+use Rattle.codes.specs.declared.Code.{Code}
 use mathlib.Core.Bool.{not}
 use mathlib.Core.Path.{sym, ap, _∙_}
 use Rattle.apdu.specs.Reading.{readBody}

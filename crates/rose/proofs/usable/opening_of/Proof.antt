@@ -17,7 +17,7 @@ use Rattle.rose.proofs.usable.opening_of.Tie as tie
 abbrev lent-state : tie.Start → State
 lent-state c =
     let b = c .args in
-    both (lent (b .own-count) (b .own-ids .now) (b .own-codes .now)) (lent (b .peer-count) (b .peer-ids .now) (b .peer-codes .now))
+    both (lent (b .own-count) (b .own-ids .now) (b .own-lengths .now) (b .own-highs .now) (b .own-lows .now)) (lent (b .peer-count) (b .peer-ids .now) (b .peer-lengths .now) (b .peer-highs .now) (b .peer-lows .now))
 
 returns : tie.Need-returns
 returns c =

@@ -36,7 +36,7 @@ abbrev μ-loop : tie.MeasureT-loop
 μ-loop oc oi od pc pi pd table asked code own n b₀ e₀ i₀ busy entry i = n - i
 
 abbrev records-of : tie.Start Inv-loop μ-loop → List Record
-records-of c = let b = c .args in all (b .own-count) (b .own-ids .now) (b .own-codes .now) (b .peer-count) (b .peer-ids .now) (b .peer-codes .now)
+records-of c = let b = c .args in all (b .own-count) (b .own-ids .now) (b .own-lengths .now) (b .own-highs .now) (b .own-lows .now) (b .peer-count) (b .peer-ids .now) (b .peer-lengths .now) (b .peer-highs .now) (b .peer-lows .now)
 
 add-n : tie.Need-add-n Inv-loop μ-loop
 add-n c =
@@ -46,10 +46,10 @@ add-n c =
 loop-holds : tie.Need-loop-holds Inv-loop μ-loop
 loop-holds c =
     let arg2 = c .before in let own = arg2 .before in let arg = own .before in let b = arg .before .before .args in
-    let x = own .live .ensures ∙ live-length (b .own-count) (b .own-ids .now) (b .own-codes .now) in
-    let y = c .live2 .ensures ∙ live-length (b .peer-count) (b .peer-ids .now) (b .peer-codes .now) in (
+    let x = own .live .ensures ∙ live-length (b .own-count) (b .own-ids .now) (b .own-lengths .now) (b .own-highs .now) (b .own-lows .now) in
+    let y = c .live2 .ensures ∙ live-length (b .peer-count) (b .peer-ids .now) (b .peer-lengths .now) (b .peer-highs .now) (b .peer-lows .now) in (
       omega arith,
-      omega (arith, x, y, length-append (view (lent (b .own-count) (b .own-ids .now) (b .own-codes .now))) (view (lent (b .peer-count) (b .peer-ids .now) (b .peer-codes .now)))),
+      omega (arith, x, y, length-append (view (lent (b .own-count) (b .own-ids .now) (b .own-lengths .now) (b .own-highs .now) (b .own-lows .now))) (view (lent (b .peer-count) (b .peer-ids .now) (b .peer-lengths .now) (b .peer-highs .now) (b .peer-lows .now)))),
       x,
       omega (arith, own .live .ensures, length-take (b .own-count) (b .own-ids .now), arg .live-arg .given .0),
       omega (arith, c .live2 .ensures, length-take (b .peer-count) (b .peer-ids .now), arg2 .live-arg2 .given .0),
@@ -65,7 +65,7 @@ code-at-requires c κs = (c .before .loop .inv .3, omega (arith, c .before .loop
 there : (c : tie.After-code-at Inv-loop μ-loop) → Next (records-of (c .before .before .before .before .before .before .before .before)) (c .before .before .loop .i) (c .code-at .result)
 there c =
     let a = c .before .before in let b = a .before .before .before .before .before .before .args in
-    next (lent (b .own-count) (b .own-ids .now) (b .own-codes .now)) (lent (b .peer-count) (b .peer-ids .now) (b .peer-codes .now)) (a .loop .i) _ (a .loop .inv .2)
+    next (lent (b .own-count) (b .own-ids .now) (b .own-lengths .now) (b .own-highs .now) (b .own-lows .now)) (lent (b .peer-count) (b .peer-ids .now) (b .peer-lengths .now) (b .peer-highs .now) (b .peer-lows .now)) (a .loop .i) _ (a .loop .inv .2)
     (omega (arith, a .loop .inv .1)) _ (c .code-at .ensures)
 
 returns : tie.Need-returns Inv-loop μ-loop
