@@ -13,6 +13,7 @@ use Rattle.records.specs.declared.State.{State}
 use Rattle.records.specs.declared.Found.{Found}
 use Rattle.records.specs.declared.Found.the-variants.{Operation}
 use Rattle.codes.specs.Code.{sameCode}
+use Rattle.codes.proofs.CodeLaws.{equal-code-same}
 use Rattle.records.specs.Records.{member, lookup}
 use Rattle.optable.specs.declared.Part.the-variants.{Operations}
 use Rattle.codes.specs.declared.Place.the-variants.{At}
@@ -45,7 +46,7 @@ found-invoked n (r ∷ l) h = go (eqb (r .id) n) h (found-invoked n l)
     at b = cond b (Operation (r .code)) (lookup n l)
 
     go : (b : Bool) → isFound (at b) ≡ true → (isFound (lookup n l) ≡ true → invoked (codeFound (lookup n l)) l ≡ true) → (sameCode (r .code) (codeFound (at b)) || invoked (codeFound (at b)) l) ≡ true
-    go true h ih = or-true-left (sameCode (r .code) (r .code)) (invoked (r .code) l) (eq-eqb (r .code .0) (r .code .0) refl)
+    go true h ih = or-true-left (sameCode (r .code) (r .code)) (invoked (r .code) l) (equal-code-same (r .code) (r .code) refl)
     go false h ih = or-true-right (sameCode (r .code) (codeFound (lookup n l))) (invoked (codeFound (lookup n l)) l) (ih h)
 
 invoked-before : (c : Code) (k l : List Record) → invoked c k ≡ true → invoked c (k ++ l) ≡ true

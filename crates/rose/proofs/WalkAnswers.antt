@@ -48,7 +48,7 @@ module _ (a b : Records) (i : ℕ) where
       let y = rw f at (drop-append-add (view a) (view b) (i - length (view a) + 1)) in
       rw (x, y) (left-at b (i - length (view a)) q)
 
-  module _ (own : ℕ) (e : own ≡ length (view a)) (p : i < length (view a ++ view b)) (c : Code) (q : c ≡ record { 0 = cond (ltb i own) (getD (a .codes) i 0) (getD (b .codes) (i - own) 0) }) where
+  module _ (own : ℕ) (e : own ≡ length (view a)) (p : i < length (view a ++ view b)) (c : Code) (q : c ≡ codeOf (cond (ltb i own) (nameIn (a .lengths) (a .highs) (a .lows) i) (nameIn (b .lengths) (b .highs) (b .lows) (i - own)))) where
     pub next : Next (view a ++ view b) i c
     next = go (ltb i own) refl
       where

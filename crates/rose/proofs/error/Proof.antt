@@ -13,7 +13,7 @@ use Rattle.rose.proofs.error.Statement.{statement}
 use Rattle.rose.proofs.error.Tie as tie
 
 abbrev start : tie.After-check-error → tie.Start
-start c = c .before .before .before .before .before .before .before .before .before .before .before
+start c = c .before .before .before .before .before .before .before .before .before .before .before .before .before .before .before
 
 abbrev call : tie.Start → Call
 call c = error (c .args .id .0) (c .args .code) (c .args .value .now) (length (c .args .out .now))

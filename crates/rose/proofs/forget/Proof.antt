@@ -12,7 +12,7 @@ use Rattle.rose.proofs.forget.Statement.{statement}
 use Rattle.rose.proofs.forget.Tie as tie
 
 abbrev start : tie.After-check-forget → tie.Start
-start c = c .before .before .before .before .before .before .before .before .before
+start c = c .before .before .before .before .before .before .before .before .before .before .before .before .before
 
 verdict : (c : tie.After-check-forget) → Judged (start c .args .table .now) (start c .args .t1) (forgetting (start c .args .invocation)) (c .check-forget .result)
 verdict c =

@@ -25,7 +25,7 @@ abbrev placed : tie.After-check-invoke → tie.After-operation-place
 placed c = value-checked c .before
 
 abbrev start : tie.After-check-invoke → tie.Start
-start c = placed c .before .before .before .before .before .before .before .before .before .before .before .before .before .before
+start c = placed c .before .before .before .before .before .before .before .before .before .before .before .before .before .before .before .before .before .before
 
 abbrev call : tie.Start → Call
 call c = invoke (c .args .id .0) (c .args .code) (readPeerLink (c .args .linked)) (c .args .value .now) (length (c .args .out .now))

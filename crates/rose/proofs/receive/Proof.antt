@@ -15,7 +15,7 @@ use Rattle.rose.proofs.receive.Statement.{statement}
 use Rattle.rose.proofs.receive.Tie as tie
 
 abbrev start : tie.After-check-receive → tie.Start
-start c = c .before .before .before .before .before .before .before .before .before .before .before .before
+start c = c .before .before .before .before .before .before .before .before .before .before .before .before .before .before .before .before
 
 abbrev opened : tie.After-check-receive → tie.After-opening-of
 opened c = c .before
@@ -39,8 +39,8 @@ returns c =
 
 -- where the checks pass: the APDU is as it was parsed, and the operation of the record that it leads to stands where the walk says
 module _ (c : tie.After-check-receive) (o : c .check-receive .result ≡ Passes) where
-  parsed : readParsed (start c .args .apdu .now) (sought c .before .before .before .before .before .before .read .result) ≡ parse (start c .args .apdu .now)
-  parsed = let b = start c .args in sought c .before .before .before .before .before .before .read .ensures (short (b .table .now) (b .t1) (b .apdu .now) (b .out .now) _ (verdict c) o)
+  parsed : readParsed (start c .args .apdu .now) (sought c .before .before .before .before .before .before .before .before .before .before .read .result) ≡ parse (start c .args .apdu .now)
+  parsed = let b = start c .args in sought c .before .before .before .before .before .before .before .before .before .before .read .ensures (short (b .table .now) (b .t1) (b .apdu .now) (b .out .now) _ (verdict c) o)
 
   leads : opened c .opening-of .result .found ≡ leadsTo (parse (start c .args .apdu .now)) (ownRecords (start c .args .t1))
   leads =

@@ -13,7 +13,7 @@ use Rattle.rose.proofs.reject.Statement.{statement}
 use Rattle.rose.proofs.reject.Tie as tie
 
 abbrev start : tie.After-check-reject → tie.Start
-start c = c .before .before .before .before .before .before .before .before .before
+start c = c .before .before .before .before .before .before .before .before .before .before .before .before .before
 
 abbrev call : tie.Start → Call
 call c = reject (c .args .id .0) (c .args .problem) (length (c .args .out .now))

@@ -15,7 +15,7 @@ use Rattle.rose.proofs.result.Statement.{statement}
 use Rattle.rose.proofs.result.Tie as tie
 
 abbrev start : tie.After-check-result → tie.Start
-start c = c .before .before .before .before .before .before .before .before .before .before .before
+start c = c .before .before .before .before .before .before .before .before .before .before .before .before .before .before .before
 
 abbrev call : tie.Start → Call
 call c = result (c .args .id .0) (c .args .value .now) (length (c .args .out .now))

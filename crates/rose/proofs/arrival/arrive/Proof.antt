@@ -18,7 +18,7 @@ use Rattle.rose.proofs.arrival.arrive.Statement.{statement}
 use Rattle.rose.proofs.arrival.arrive.Tie as tie
 
 -- the state with this own side, whose peer side is lent, whatever its codes are
-abbrev lent-state : tie.Start → Records → List ℕ → State
+abbrev lent-state : tie.Start → Records → List ℕ → List ℕ → List ℕ → State
 lent-state c own lengths highs lows = both own (lent (c .args .count) (c .args .ids .now) lengths highs lows)
 
 returns : tie.Need-returns

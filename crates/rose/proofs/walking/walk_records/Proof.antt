@@ -22,18 +22,18 @@ use Rattle.rose.proofs.walking.walk_records.Statement.{statement}
 use Rattle.rose.proofs.walking.walk_records.Tie as tie
 
 -- the live records whose fields are lent
-abbrev all : ℕ → List ℕ → List ℕ → ℕ → List ℕ → List ℕ → List Record
-all own-count own-ids own-codes peer-count peer-ids peer-codes = live (both (lent own-count own-ids own-codes) (lent peer-count peer-ids peer-codes))
+abbrev all : ℕ → List ℕ → List ℕ → List ℕ → List ℕ → ℕ → List ℕ → List ℕ → List ℕ → List ℕ → List Record
+all oc oi ol oh ow pc pi pl ph pw = live (both (lent oc oi ol oh ow) (lent pc pi pl ph pw))
 
 abbrev Inv-loop : tie.InvT-loop
-Inv-loop oc oi od pc pi pd table asked code own n b₀ e₀ i₀ busy entry i =
-    (i ≤ n) × (n ≡ length (all oc oi od pc pi pd)) × (own ≡ length (view (lent oc oi od))) × (own ≤ records) × (n ≤ own + records)
-    × (valid table ≡ true → covered table (all oc oi od pc pi pd) ≡ covered table (drop i (all oc oi od pc pi pd)))
-    × (valid table ≡ true → isBusy table (take asked (all oc oi od pc pi pd)) ≡ (busy || isBusy table (take (asked - i) (drop i (all oc oi od pc pi pd)))))
-    × (invoked code (all oc oi od pc pi pd) ≡ true → PlaceOf table Operations code (At entry) ⊎ (invoked code (drop i (all oc oi od pc pi pd)) ≡ true))
+Inv-loop oc oi ol oh ow pc pi pl ph pw table asked code own n b₀ e₀ i₀ busy entry i =
+    (i ≤ n) × (n ≡ length (all oc oi ol oh ow pc pi pl ph pw)) × (own ≡ length (view (lent oc oi ol oh ow))) × (own ≤ records) × (n ≤ own + records)
+    × (valid table ≡ true → covered table (all oc oi ol oh ow pc pi pl ph pw) ≡ covered table (drop i (all oc oi ol oh ow pc pi pl ph pw)))
+    × (valid table ≡ true → isBusy table (take asked (all oc oi ol oh ow pc pi pl ph pw)) ≡ (busy || isBusy table (take (asked - i) (drop i (all oc oi ol oh ow pc pi pl ph pw)))))
+    × (invoked code (all oc oi ol oh ow pc pi pl ph pw) ≡ true → PlaceOf table Operations code (At entry) ⊎ (invoked code (drop i (all oc oi ol oh ow pc pi pl ph pw)) ≡ true))
 
 abbrev μ-loop : tie.MeasureT-loop
-μ-loop oc oi od pc pi pd table asked code own n b₀ e₀ i₀ busy entry i = n - i
+μ-loop oc oi ol oh ow pc pi pl ph pw table asked code own n b₀ e₀ i₀ busy entry i = n - i
 
 abbrev records-of : tie.Start Inv-loop μ-loop → List Record
 records-of c = let b = c .args in all (b .own-count) (b .own-ids .now) (b .own-lengths .now) (b .own-highs .now) (b .own-lows .now) (b .peer-count) (b .peer-ids .now) (b .peer-lengths .now) (b .peer-highs .now) (b .peer-lows .now)
@@ -58,15 +58,15 @@ loop-holds c =
       λ h. inr h,
     )
 
-code-at-requires : tie.Need-code-at-requires Inv-loop μ-loop
-code-at-requires c κs = (c .before .loop .inv .3, omega (arith, c .before .loop .inv .4))
+code-of-requires : tie.Need-code-of-requires Inv-loop μ-loop
+code-of-requires c κs = (c .before .loop .inv .3, omega (arith, c .before .loop .inv .4))
 
 -- what stands at i
-there : (c : tie.After-code-at Inv-loop μ-loop) → Next (records-of (c .before .before .before .before .before .before .before .before)) (c .before .before .loop .i) (c .code-at .result)
+there : (c : tie.After-code-of Inv-loop μ-loop) → Next (records-of (c .before .before .before .before .before .before .before .before)) (c .before .before .loop .i) (c .code-of .result)
 there c =
     let a = c .before .before in let b = a .before .before .before .before .before .before .args in
     next (lent (b .own-count) (b .own-ids .now) (b .own-lengths .now) (b .own-highs .now) (b .own-lows .now)) (lent (b .peer-count) (b .peer-ids .now) (b .peer-lengths .now) (b .peer-highs .now) (b .peer-lows .now)) (a .loop .i) _ (a .loop .inv .2)
-    (omega (arith, a .loop .inv .1)) _ (c .code-at .ensures)
+    (omega (arith, a .loop .inv .1)) _ (c .code-of .ensures)
 
 returns : tie.Need-returns Inv-loop μ-loop
 returns c =
@@ -105,6 +105,6 @@ returns-2 c =
 pub walk-records-spec : {M : Type 1} → statement M
 walk-records-spec =
     tie.close
-    (tie.spec Inv-loop μ-loop (λ c κs. search needs) (λ c κs. search needs) add-n loop-holds code-at-requires (λ c κs. search needs) (λ c. search needs)
+    (tie.spec Inv-loop μ-loop (λ c κs. search needs) (λ c κs. search needs) add-n loop-holds code-of-requires (λ c κs. search needs) (λ c. search needs)
     (λ c. search needs) returns (λ c κs. search needs) (λ c κs. search needs) (λ c κs. search needs) (λ c. search needs) (λ c. search needs)
     loop-again returns-2)
