@@ -5,6 +5,8 @@ use apdu::Number;
 use apdu::OwnLink;
 use apdu::Value;
 use apdu::parse::octets_of;
+use codes::Code;
+use codes::Name;
 use protocol::Indication;
 use protocol::Outcome;
 use protocol::Reception;
@@ -66,10 +68,26 @@ fn value_line(line: &mut [u8], at: usize, x: &[u8], value: Value) -> usize {
     }
 }
 
-fn code_line(line: &mut [u8], at: usize, code: CodeField) -> usize {
+// A name as `n`, its length and its 16 octets.
+pub(crate) fn name_digits(line: &mut [u8], at: usize, name: Name) -> usize {
+    let a = put(line, at, 110);
+    let b = octet(line, a, name.length);
+    let all = name.octets();
+    octets(line, b, &all)
+}
+
+fn code_line(line: &mut [u8], at: usize, code: Code) -> usize {
+    let a = put(line, at, 32);
     match code {
+        Code::Local(x) => eight_digits(line, a, x),
+        Code::Global(name) => name_digits(line, a, name),
+    }
+}
+
+fn field_line(line: &mut [u8], at: usize, field: CodeField) -> usize {
+    match field {
         CodeField::Other => words(line, at, b" none"),
-        CodeField::Local(c) => word_line(line, at, c.0),
+        CodeField::Is(code) => code_line(line, at, code),
     }
 }
 
@@ -77,15 +95,15 @@ fn body_line(line: &mut [u8], at: usize, x: &[u8], body: Body) -> usize {
     match body {
         Body::Absent => words(line, at, b" none none"),
         Body::Of { code, value } => {
-            let a = code_line(line, at, code);
+            let a = field_line(line, at, code);
             octets_line(line, a, octets_of(x, value))
         }
     }
 }
 
-fn operation_line(line: &mut [u8], at: usize, code: u32) -> usize {
+fn operation_line(line: &mut [u8], at: usize, code: Code) -> usize {
     let a = words(line, at, b" op");
-    word_line(line, a, code)
+    code_line(line, a, code)
 }
 
 fn user_reject_line(line: &mut [u8], id: u32, kind: u8, problem: u8) -> usize {
@@ -100,7 +118,7 @@ fn general_reject_line(line: &mut [u8], id: Number, problem: u8) -> usize {
     problem_line(line, b, 0x80, problem)
 }
 
-fn result_line(line: &mut [u8], x: &[u8], id: u32, body: Body, operation: u32) -> usize {
+fn result_line(line: &mut [u8], x: &[u8], id: u32, body: Body, operation: Code) -> usize {
     let a = words(line, 0, b"result");
     let b = word_line(line, a, id);
     let c = body_line(line, b, x, body);
@@ -112,13 +130,13 @@ fn invoke_line(
     x: &[u8],
     id: u32,
     linked: OwnLink,
-    code: u32,
+    code: Code,
     argument: Value,
 ) -> usize {
     let a = words(line, 0, b"invoke");
     let b = word_line(line, a, id);
     let c = link_line(line, b, linked);
-    let d = word_line(line, c, code);
+    let d = code_line(line, c, code);
     value_line(line, d, x, argument)
 }
 
@@ -126,13 +144,13 @@ fn error_line(
     line: &mut [u8],
     x: &[u8],
     id: u32,
-    code: u32,
+    code: Code,
     parameter: Value,
-    operation: u32,
+    operation: Code,
 ) -> usize {
     let a = words(line, 0, b"error");
     let b = word_line(line, a, id);
-    let c = word_line(line, b, code);
+    let c = code_line(line, b, code);
     let d = value_line(line, c, x, parameter);
     operation_line(line, d, operation)
 }
@@ -144,18 +162,18 @@ fn indication_line(line: &mut [u8], x: &[u8], said: Indication) -> usize {
             linked,
             code,
             argument,
-        } => invoke_line(line, x, id.0, linked, code.0, argument),
+        } => invoke_line(line, x, id.0, linked, code, argument),
         Indication::Result {
             id,
             body,
             operation,
-        } => result_line(line, x, id.0, body, operation.0),
+        } => result_line(line, x, id.0, body, operation),
         Indication::Error {
             id,
             code,
             parameter,
             operation,
-        } => error_line(line, x, id.0, code.0, parameter, operation.0),
+        } => error_line(line, x, id.0, code, parameter, operation),
         Indication::InvokeRejected { id, problem } => user_reject_line(line, id.0, 0x81, problem),
         Indication::ResultRejected { id, problem } => user_reject_line(line, id.0, 0x82, problem),
         Indication::ErrorRejected { id, problem } => user_reject_line(line, id.0, 0x83, problem),

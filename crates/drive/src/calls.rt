@@ -9,6 +9,7 @@ use crate::output::fill;
 use apdu::PeerLink;
 use apdu::Value;
 use codes::Code;
+use codes::Name;
 use protocol::Invocation;
 use protocol::Received;
 use protocol::Requested;
@@ -28,10 +29,50 @@ pub(crate) struct Frame {
 }
 
 fn link(f: Frame) -> PeerLink {
-    if f.flag == 1 {
+    if f.flag % 2 == 1 {
         return PeerLink::To(PeerId(f.linked));
     }
     PeerLink::Absent
+}
+
+// Whether the payload of an invoke or an error begins with the name that is its code.
+fn is_named(f: Frame) -> bool {
+    let kind = f.kind;
+    (kind == 3 || kind == 5) && f.flag / 2 % 2 == 1
+}
+
+// How many octets a name has that a payload begins with, behind the octet that says so.
+fn name_size(payload: &[u8]) -> usize {
+    if payload.len() == 0 {
+        return 0;
+    }
+    let n = payload[0] as usize;
+    if n < payload.len() {
+        return n;
+    }
+    payload.len() - 1
+}
+
+// The code that a frame says: its name, or its number.
+fn code_of(f: Frame, payload: &[u8]) -> Code {
+    if is_named(f) {
+        let n = name_size(payload);
+        if n < payload.len() {
+            return Code::Global(Name::of(&payload[1..n + 1]));
+        }
+    }
+    Code::Local(f.code)
+}
+
+// The value that a frame says: its payload, behind the name if there is one.
+fn value_given(f: Frame, payload: &[u8]) -> &[u8] {
+    if is_named(f) {
+        let n = name_size(payload);
+        if n < payload.len() {
+            return &payload[n + 1..];
+        }
+    }
+    payload
 }
 
 fn invocation(f: Frame) -> Invocation {
@@ -82,16 +123,23 @@ fn receive(asked: Asked, state: State, table: &[u8], x: &[u8], out: &mut [u8]) -
     next
 }
 
-fn request(f: Frame, state: State, table: &[u8], value: &[u8], out: &mut [u8]) -> Requested {
+fn request(
+    f: Frame,
+    code: Code,
+    state: State,
+    table: &[u8],
+    value: &[u8],
+    out: &mut [u8],
+) -> Requested {
     let kind = f.kind;
     if kind == 3 {
-        return rose::invoke(state, table, OwnId(f.id), Code(f.code), link(f), value, out);
+        return rose::invoke(state, table, OwnId(f.id), code, link(f), value, out);
     }
     if kind == 4 {
         return rose::result(state, table, PeerId(f.id), value, out);
     }
     if kind == 5 {
-        return rose::error(state, table, PeerId(f.id), Code(f.code), value, out);
+        return rose::error(state, table, PeerId(f.id), code, value, out);
     }
     if kind == 6 {
         return rose::reject(state, table, PeerId(f.id), f.flag, out);
@@ -102,6 +150,7 @@ fn request(f: Frame, state: State, table: &[u8], value: &[u8], out: &mut [u8]) -
 fn requested(
     times: u64,
     f: Frame,
+    code: Code,
     state: State,
     table: &[u8],
     value: &[u8],
@@ -110,7 +159,7 @@ fn requested(
     let mut left = times;
     let mut lent = table;
     loop {
-        let r = request(f, state, lent, value, out);
+        let r = request(f, code, state, lent, value, out);
         if left < 2 {
             return r;
         }
@@ -124,11 +173,13 @@ fn request_or_forget(
     f: Frame,
     state: State,
     table: &[u8],
-    value: &[u8],
+    payload: &[u8],
     out: &mut [u8],
 ) -> State {
     let mut line = line_buffer();
-    let r = requested(asked.times, f, state, table, value, out);
+    let code = code_of(f, payload);
+    let value = value_given(f, payload);
+    let r = requested(asked.times, f, code, state, table, value, out);
     let outcome = r.outcome;
     let next = r.state;
     let at = outcome_line(&mut line, f.kind == 7, outcome);

@@ -18,14 +18,24 @@ use text::words;
 
 fn state_line(line: &mut [u8], at: usize, state: State) -> usize {
     let a = words(line, at, b" own ");
-    let b = side_line(line, a, state.own.count, &state.own.ids, &state.own.codes);
+    let b = side_line(
+        line,
+        a,
+        state.own.count,
+        &state.own.ids,
+        &state.own.lengths,
+        &state.own.highs,
+        &state.own.lows,
+    );
     let c = words(line, b, b" peer ");
     side_line(
         line,
         c,
         state.peer.count,
         &state.peer.ids,
-        &state.peer.codes,
+        &state.peer.lengths,
+        &state.peer.highs,
+        &state.peer.lows,
     )
 }
 

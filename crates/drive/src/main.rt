@@ -25,6 +25,7 @@ use script::behind;
 use script::has_filled;
 use script::next_header;
 use script::read_text;
+use side::local_image;
 use side::side_image;
 use text::words;
 
@@ -42,15 +43,20 @@ fn ended(mut s: Session) -> Session {
     s
 }
 
-// A state image of 516 octets; another length is ignored.
+// The state of an image, of 516 octets where no code is a name, else of 1,348; another length leaves the state as it was.
 fn imaged(payload: &[u8], mut s: Session) -> Session {
-    if payload.len() != 516 {
-        return s;
+    if payload.len() == 516 {
+        let own = local_image(payload, 0);
+        let peer = local_image(payload, 258);
+        let state = State { own, peer };
+        s.state = state;
     }
-    let own = side_image(payload, 0);
-    let peer = side_image(payload, 258);
-    let state = State { own, peer };
-    s.state = state;
+    if payload.len() == 1348 {
+        let own = side_image(payload, 0);
+        let peer = side_image(payload, 674);
+        let state = State { own, peer };
+        s.state = state;
+    }
     s
 }
 

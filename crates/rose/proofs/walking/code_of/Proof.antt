@@ -17,6 +17,7 @@ returns-2 : tie.Need-returns-2
 returns-2 c =
     let b = c .before .before .args in
     c .code-at2 .ensures ∙ rw (lt-ltb (b .i - b .own) records (omega arith), le-ltb _ _ (c .before .if1 .left)) refl
+
 pub code-of-spec : {M : Type 1} → statement M
 code-of-spec =
     tie.close
