@@ -24,7 +24,7 @@ use Rattle.apdu.specs.declared.Number.the-variants.{Of, Absent}
 use Rattle.apdu.specs.Parse.{Apdu, badlyStructured, unrecognized, mistyped, parse, invoke as Invoke, result as Result, error as Error, reject as Reject}
 use Rattle.protocol.specs.Call.{own, peer, Call, receive, invoke, result, error, reject, forget, Refusal, plain, rejecting, refused, stateAfter}
 use Rattle.protocol.specs.Check.{covered, usable, isSilent, isFull, ownRecords, peerRecords}
-use Rattle.protocol.specs.Receive.{fieldCode, isOperation, fault, invokeChecks, resultChecks, errorChecks, withPeer, receiveApdu}
+use Rattle.protocol.specs.Receive.{fieldCode, fault, invokeChecks, resultChecks, errorChecks, withPeer, receiveApdu}
 use Rattle.protocol.specs.Perform.{laterChecks, checks, done, perform, withOwn}
 use Rattle.protocol.specs.End.{gives, Fit, EachFit, OneEnd}
 use Rattle.protocol.proofs.Checks.{Pass, settle, never-given, avoids}

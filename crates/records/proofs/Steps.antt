@@ -8,7 +8,7 @@ use mathlib.Core.List.{List, [], _∷_, _++_, map, append-nil}
 use borrow.Author.Tests.{eq-eqb, ne-eqb, eqb-true, eqb-false}
 use lib.Dec.{eqb}
 use lib.Bits.{bitOr, or-add-and, and-le-l, and-le-r}
-use lib.ListN.{length, take, drop, getD, set, replicate, length-map, length-take, drop-of-length-le}
+use lib.ListN.{length, take, drop, getD, replicate, length-map, length-take, drop-of-length-le}
 use lib.Seq.{drop-cons, take-suc, getD-take}
 use Rattle.codes.specs.Code.{codeRight}
 use Rattle.records.specs.declared.Record.{Record}

@@ -1,6 +1,6 @@
 -- An integer, or a name, behind two octets.
 use native.Mathlib.Omega.{arith}
-use mathlib.Core.Path.{ap, sym, _∙_}
+use mathlib.Core.Path.{ap}
 use lib.ListN.{length}
 use Rattle.ber.proofs.IntegerLaws.{count-within}
 use Rattle.apdu.specs.Encode.{codeField}

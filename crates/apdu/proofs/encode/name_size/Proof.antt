@@ -1,6 +1,5 @@
 -- No name has more than 16 octets.
 use native.Mathlib.Omega.{arith}
-use mathlib.Core.Path.{sym}
 use Rattle.apdu.proofs.SizeLaws.{contents-length}
 use borrow.Author.Needs.{needs}
 use Rattle.apdu.proofs.encode.name_size.Statement.{statement}

@@ -1,6 +1,6 @@
 -- The header of a 06, and the name behind it.
 use native.Mathlib.Omega.{arith}
-use mathlib.Core.Path.{_≡_, sym, ap, _∙_}
+use mathlib.Core.Path.{_≡_, ap, _∙_}
 use lib.ListN.{length, take, length-append, length-take}
 use Rattle.ber.proofs.OutputLaws.{stored-as}
 use mathlib.Core.List.{List, _∷_, _++_}

@@ -1,5 +1,4 @@
 -- Over 16 octets equal no table code, and up to 16 are a name.
-use native.Mathlib.Omega.{arith}
 use borrow.Author.Tests.{le-leb, lt-leb}
 use Rattle.apdu.specs.Parse.{nameCode}
 use borrow.Author.Needs.{needs}
