@@ -42,7 +42,7 @@ test:
 	wait $$tested || { cat "$$second"; echo "make test: the second program's own tests failed"; exit 1; }
 	cat "$$second"
 	tests/second/target/release/second examples target/bin/drive places
-	tests/second/target/release/second compare target/bin/drive 80 2000 places
+	tests/second/target/release/second compare target/bin/drive 120 2000 places
 	tests/second/target/release/second ends target/bin/drive 1 20000
 	tests/second/target/release/second tables target/bin/tabcheck target/bin/tabmake 1 600
 	tests/second/target/release/second replays target/bin/replay 1 600

@@ -1,9 +1,9 @@
 #!/usr/bin/env python3
 """Changes the second program in one place at a time and shows that `second compare` or `second replays` finds each change.
 
-Prints a table of place, change, where compare found it, and whether `second ends` found it too, and a table of place, change and
-where replays found it. All are run by the unchanged program beside the changed one. Fails if a change is not found or no longer
-applies.
+Prints a table of place, change, where compare found it, and whether `second ends` found it too, a table of place, change and
+where replays found it, and a table of changes that the changed program's own `ends` finds. All others are run by the unchanged
+program beside the changed one. Fails if a change is not found or no longer applies.
 Use: python3 tests/mutants.py [WORD]   (WORD: only changes whose place or description contains it)
 """
 
@@ -16,7 +16,7 @@ import sys
 import tempfile
 
 SECOND = pathlib.Path(__file__).resolve().parent / "second"
-SEEDS, CALLS = "80", "2000"
+SEEDS, CALLS = "120", "2000"
 ENDS_CALLS = "20000"
 REPLAYS_SEED, REPLAYS_COUNT = "1", "400"
 
@@ -60,12 +60,12 @@ MUTANTS = [
      "self.places[at] = self.places[last];"),
     ("state.rs", "repeated ids sound", "            && !self.repeats_an_id()\n", ""),
     ("state.rs", "rubbish behind the count sound",
-     "            && self.places[count..].iter().fold(0, |rubbish, place| rubbish | place.id | place.code) == 0\n", ""),
+     "            && self.places[count..].iter().fold(0, |rubbish, place| rubbish | place.rubbish()) == 0\n", ""),
     ("state.rs", "peer side not checked", "self.own.is_sound() && self.peer.is_sound()", "self.own.is_sound()"),
-    ("table.rs", "65 errors allowed", "[64, 64, 256, 256]", "[64, 65, 256, 256]"),
-    ("table.rs", "255 child pairs only", "[64, 64, 256, 256]", "[64, 64, 256, 255]"),
+    ("table.rs", "65 errors allowed", "[64, 64, 256, 256, 128]", "[64, 65, 256, 256, 128]"),
+    ("table.rs", "255 child pairs only", "[64, 64, 256, 256, 128]", "[64, 64, 256, 255, 128]"),
     ("table.rs", "offsets not checked", "if count > MOST[part] || offset != starts[part] {", "let offset = starts[part];\n            if count > MOST[part] {"),
-    ("table.rs", "flags over 3 allowed", "                & (flags <= 3)\n", ""),
+    ("table.rs", "flags that no edition has allowed", "                & (flags <= allowed)\n", ""),
     ("table.rs", "class 3 may have a result", "!matches!(class, 3 | 5)", "!matches!(class, 5)"),
     ("table.rs", "error pair of class 4 allowed", "!matches!(entry[4], 4 | 5)", "!matches!(entry[4], 5)"),
     ("table.rs", "class 5 parent allowed", "u64::from(entry[4] != 5) << index", "1 << index"),
@@ -75,17 +75,17 @@ MUTANTS = [
     ("table.rs", "no value always right", "None => self.kind == 0 || self.optional,", "None => true,"),
     ("table.rs", "any value right where one may stand", "self.kind != 0 && value.first() == Some(&self.kind)", "self.kind != 0"),
     ("table.rs", "last entry of a list never looked at", "    entries.binary_search_by_key(", "    entries.split_last()?.1.binary_search_by_key("),
-    ("table.rs", "first entry of a list never looked at", "|entry| code(entry)).ok()\n}", "|entry| code(entry)).ok().filter(|index| *index > 0)\n}"),
-    ("table.rs", "list of 64 errors searched as if it had 63", "index(self.errors, wanted)", "index(&self.errors[..self.errors.len().min(63)], wanted)"),
-    ("table.rs", "codes of a list compared as unsigned", "binary_search_by_key(&wanted, |entry| code(entry)).ok()\n}",
-     "binary_search_by_key(&(wanted as u32), |entry| code(entry) as u32).ok()\n}"),
-    ("table.rs", "code just below a list taken for its first", "|entry| code(entry)).ok()\n}",
-     "|entry| code(entry)).ok().or_else(|| (code(entries.first()?).checked_sub(1) == Some(wanted)).then_some(0))\n}"),
-    ("table.rs", "code between two of a list taken for the second", "|entry| code(entry)).ok()\n}",
-     "|entry| code(entry)).or_else(|index| if (1..entries.len()).contains(&index) { Ok(index) } else { Err(index) }).ok()\n}"),
+    ("table.rs", "first entry of a list never looked at", "binary_search_by_key(&wanted, place).ok()\n}", "binary_search_by_key(&wanted, place).ok().filter(|index| *index > 0)\n}"),
+    ("table.rs", "list of 64 errors searched as if it had 63", "index(self.errors, self", "index(&self.errors[..self.errors.len().min(63)], self"),
+    ("table.rs", "codes of a list compared as unsigned", "binary_search_by_key(&wanted, place).ok()\n}",
+     "binary_search_by_key(&(wanted as u64), |entry| place(entry) as u64).ok()\n}"),
+    ("table.rs", "code just below a list taken for its first", "binary_search_by_key(&wanted, place).ok()\n}",
+     "binary_search_by_key(&wanted, &place).ok().or_else(|| (place(entries.first()?) - 1 == wanted).then_some(0))\n}"),
+    ("table.rs", "code between two of a list taken for the second", "binary_search_by_key(&wanted, place).ok()\n}",
+     "binary_search_by_key(&wanted, place).or_else(|index| if (1..entries.len()).contains(&index) { Ok(index) } else { Err(index) }).ok()\n}"),
     ("table.rs", "six looks at a list",
-     "    entries.binary_search_by_key(&wanted, |entry| code(entry)).ok()\n}",
-     "    let (mut low, mut high) = (0, entries.len());\n    for _ in 0..6 {\n        let middle = (low + high) / 2;\n        match entries.get(middle).filter(|_| low < high).map(|entry| code(entry).cmp(&wanted))? {\n            std::cmp::Ordering::Equal => return Some(middle),\n            std::cmp::Ordering::Less => low = middle + 1,\n            std::cmp::Ordering::Greater => high = middle,\n        }\n    }\n    None\n}"),
+     "    entries.binary_search_by_key(&wanted, place).ok()\n}",
+     "    let (mut low, mut high) = (0, entries.len());\n    for _ in 0..6 {\n        let middle = (low + high) / 2;\n        match entries.get(middle).filter(|_| low < high).map(|entry| place(entry).cmp(&wanted))? {\n            std::cmp::Ordering::Equal => return Some(middle),\n            std::cmp::Ordering::Less => low = middle + 1,\n            std::cmp::Ordering::Greater => high = middle,\n        }\n    }\n    None\n}"),
     ("apdu.rs", "81 with contents allowed", "        field.contents().is_empty().then_some(())?;\n", "        let _ = field;\n"),
     ("apdu.rs", "05 00 with any problem", "(id.is_some() || matches!(problem, Problem::General(_)))", "true"),
     ("apdu.rs", "element behind 30 allowed", "fields.are_taken().then_some(Apdu::Result { id, returned })", "Some(Apdu::Result { id, returned })"),
@@ -113,14 +113,14 @@ MUTANTS = [
     ("engine.rs", "wrong Reject answered", "Err(unreadable) if octets.first() == Some(&apdu::REJECT) =>", "Err(unreadable) if octets == [apdu::REJECT] =>"),
     ("engine.rs", "duplicate looked up among own records", "if state.peer.find(id).is_some() {", "if state.own.find(id).is_some() {"),
     ("engine.rs", "received linked id looked up among peer records",
-     "let at = state.own.find(linked).ok_or(Problem::UNRECOGNIZED_LINKED_ID)?;\n        parent = table.operation(state.own",
-     "let at = state.peer.find(linked).ok_or(Problem::UNRECOGNIZED_LINKED_ID)?;\n        parent = table.operation(state.peer"),
+     "let at = state.own.find(linked).ok_or(Problem::UNRECOGNIZED_LINKED_ID)?;\n        parent = table.operation(&state.own",
+     "let at = state.peer.find(linked).ok_or(Problem::UNRECOGNIZED_LINKED_ID)?;\n        parent = table.operation(&state.peer"),
     ("engine.rs", "linkedResponseUnexpected dropped", "if !parent.is_some_and(|parent| table.has_children(&parent)) {", "if parent.is_none() {"),
     ("engine.rs", "unexpectedLinkedOperation before mistypedArgument", "    if !operation.argument.allows(value) {\n",
      "    if !operation.argument.allows(value) && !parent.is_some_and(|parent| !table.lists_child(&parent, &operation)) {\n"),
     ("engine.rs", "resourceLimitation for class 5 too", "    if operation.class != 5 {\n        if state.peer.is_full() {\n            return Err(Problem::RESOURCE_LIMITATION);\n        }\n",
      "    if state.peer.is_full() {\n        return Err(Problem::RESOURCE_LIMITATION);\n    }\n    if operation.class != 5 {\n"),
-    ("engine.rs", "a result's code not compared", "returned.is_some_and(|(code, _)| code != Code::Local(operation.code))", "false"),
+    ("engine.rs", "a result's code not compared", "returned.is_some_and(|(code, _)| code != Some(operation.code))", "false"),
     ("engine.rs", "absent result has another code", "returned.is_some_and(|(code, _)|", "returned.is_none_or(|(code, _)|", "ends"),
     ("engine.rs", "result retires before its value rule", "    let value = returned.map(|(_, value)| value);\n", "    let value = returned.map(|(_, value)| value);\n    state.own.retire(at);\n    state.own.add(id, operation.code);\n"),
     ("engine.rs", "result retires nothing", "    state.own.retire(at);\n    Ok(match value", "    Ok(match value", "ends"),
@@ -128,17 +128,17 @@ MUTANTS = [
     ("engine.rs", "unexpectedError after mistypedParameter", "    if !table.lists_error(&operation, &error) {\n", "    if !table.lists_error(&operation, &error) && error.parameter.allows(value) {\n"),
     ("engine.rs", "result problems retire too", "if let (Problem::Invoke(_), Some(at))", "if let (Problem::Invoke(_) | Problem::Result(_), Some(at))"),
     ("engine.rs", "duplicateInvocation does not retire", "if let (Problem::Invoke(_), Some(at))", "if let (Problem::Invoke(1..), Some(at))", "ends"),
-    ("engine.rs", "5 before 4", "    let operation = table.operation(code).ok_or(Refusal::UnknownOperation)?;\n    if state.own.find(id).is_some() {\n        return Err(Refusal::IdInUse);\n    }\n",
-     "    if state.own.find(id).is_some() {\n        return Err(Refusal::IdInUse);\n    }\n    let operation = table.operation(code).ok_or(Refusal::UnknownOperation)?;\n"),
+    ("engine.rs", "5 before 4", "    let operation = code.code().and_then(|code| table.operation(&code)).ok_or(Refusal::UnknownOperation)?;\n    if state.own.find(id).is_some() {\n        return Err(Refusal::IdInUse);\n    }\n",
+     "    if state.own.find(id).is_some() {\n        return Err(Refusal::IdInUse);\n    }\n    let operation = code.code().and_then(|code| table.operation(&code)).ok_or(Refusal::UnknownOperation)?;\n"),
     ("engine.rs", "6 only for class 1 invokes", "if state.own.live().iter()", "if operation.class == 1 && state.own.live().iter()"),
     ("engine.rs", "sent linked id looked up among own records",
-     "let at = state.peer.find(linked).ok_or(Refusal::UnknownLinkedId)?;\n        let parent = table.operation(state.peer",
-     "let at = state.own.find(linked).ok_or(Refusal::UnknownLinkedId)?;\n        let parent = table.operation(state.own"),
+     "let at = state.peer.find(linked).ok_or(Refusal::UnknownLinkedId)?;\n        let parent = table.operation(&state.peer",
+     "let at = state.own.find(linked).ok_or(Refusal::UnknownLinkedId)?;\n        let parent = table.operation(&state.own"),
     ("engine.rs", "14 before 9 and 10", "    let levels = value_levels(value, operation.argument)?;\n    if operation.class != 5 && state.own.is_full() {\n        return Err(Refusal::OwnRecordsFull);\n    }\n",
      "    if operation.class != 5 && state.own.is_full() {\n        return Err(Refusal::OwnRecordsFull);\n    }\n    let levels = value_levels(value, operation.argument)?;\n"),
-    ("engine.rs", "a class 5 invoke makes a record", "    if operation.class != 5 {\n        state.own.add(id, code);\n    }\n", "    if !state.own.is_full() {\n        state.own.add(id, code);\n    }\n"),
-    ("engine.rs", "6 before 5", "    if state.own.find(id).is_some() {\n        return Err(Refusal::IdInUse);\n    }\n    let class = |code| table.operation(code).map(|operation| operation.class);\n    if state.own.live().iter().any(|record| class(record.code) == Some(1)) {\n        return Err(Refusal::SynchronousInvocationLive);\n    }\n",
-     "    let class = |code| table.operation(code).map(|operation| operation.class);\n    if state.own.live().iter().any(|record| class(record.code) == Some(1)) {\n        return Err(Refusal::SynchronousInvocationLive);\n    }\n    if state.own.find(id).is_some() {\n        return Err(Refusal::IdInUse);\n    }\n"),
+    ("engine.rs", "a class 5 invoke makes a record", "    if operation.class != 5 {\n        state.own.add(id, operation.code);\n    }\n", "    if !state.own.is_full() {\n        state.own.add(id, operation.code);\n    }\n"),
+    ("engine.rs", "6 before 5", "    if state.own.find(id).is_some() {\n        return Err(Refusal::IdInUse);\n    }\n    let class = |code| table.operation(code).map(|operation| operation.class);\n    if state.own.live().iter().any(|record| class(&record.code) == Some(1)) {\n        return Err(Refusal::SynchronousInvocationLive);\n    }\n",
+     "    let class = |code| table.operation(code).map(|operation| operation.class);\n    if state.own.live().iter().any(|record| class(&record.code) == Some(1)) {\n        return Err(Refusal::SynchronousInvocationLive);\n    }\n    if state.own.find(id).is_some() {\n        return Err(Refusal::IdInUse);\n    }\n"),
     ("engine.rs", "7 before 6", "    let class = |code| table.operation(code).map(|operation| operation.class);\n",
      "    if linked.is_some_and(|linked| state.peer.find(linked).is_none()) {\n        return Err(Refusal::UnknownLinkedId);\n    }\n    let class = |code| table.operation(code).map(|operation| operation.class);\n"),
     ("engine.rs", "9 before 7 and 8", "    let class = |code| table.operation(code).map(|operation| operation.class);\n",
@@ -146,19 +146,19 @@ MUTANTS = [
     ("engine.rs", "15 before 14", "    if operation.class != 5 && state.own.is_full() {\n",
      "    if operation.class != 5 && state.own.is_full() && value.len() < State::OCTETS - 20 {\n"),
     ("engine.rs", "12 after 13", "id, Operation::has_errors, refusals)", "id, |_| true, refusals)"),
-    ("engine.rs", "9 before 13", "    let error = table.error(code).filter(",
-     "    if !value.is_empty() && octets::levels(value, State::LEVELS).is_none() {\n        return Err(Refusal::MalformedValue { place: fault::place(value, State::LEVELS) });\n    }\n    let error = table.error(code).filter("),
+    ("engine.rs", "9 before 13", "    let error = code.code().and_then(",
+     "    if !value.is_empty() && octets::levels(value, State::LEVELS).is_none() {\n        return Err(Refusal::MalformedValue { place: fault::place(value, State::LEVELS) });\n    }\n    let error = code.code().and_then("),
     ("engine.rs", "result of class 5 allowed", "id, Operation::has_results, refusals)", "id, |operation| operation.class != 3, refusals)"),
     ("engine.rs", "11 before 16", "    if !matches!(problem, 2..=4) {\n", "    if !matches!(problem, 2..=4) && state.peer.find(id).is_some() {\n"),
     ("engine.rs", "unrecognizedOperation before the linked problems", "    let mut parent = None;\n",
-     "    code.local().and_then(|code| table.operation(code)).ok_or(Problem::UNRECOGNIZED_OPERATION)?;\n    let mut parent = None;\n"),
+     "    code.and_then(|code| table.operation(&code)).ok_or(Problem::UNRECOGNIZED_OPERATION)?;\n    let mut parent = None;\n"),
     ("engine.rs", "linked problems before duplicateInvocation", "    if state.peer.find(id).is_some() {\n",
      "    if state.peer.find(id).is_some() && linked.is_none_or(|linked| state.own.find(linked).is_some()) {\n"),
     ("engine.rs", "resourceLimitation before unexpectedLinkedOperation", "    if parent.is_some_and(|parent| !table.lists_child(&parent, &operation)) {\n",
      "    if parent.is_some_and(|parent| !table.lists_child(&parent, &operation)) && !(state.peer.is_full() && operation.class != 5) {\n"),
     ("engine.rs", "mistypedResult before another code", "    if returned.is_some_and(|(code, _)|", "    if operation.result.allows(returned.map(|(_, value)| value)) && returned.is_some_and(|(code, _)|"),
     ("engine.rs", "unrecognizedError before errorResponseUnexpected", "    let (at, operation) = answered(table, &state.own, id, Operation::has_errors, problems)?;\n",
-     "    if state.own.find(id).is_some() {\n        code.local().and_then(|code| table.error(code)).ok_or(Problem::UNRECOGNIZED_ERROR)?;\n    }\n    let (at, operation) = answered(table, &state.own, id, Operation::has_errors, problems)?;\n"),
+     "    if state.own.find(id).is_some() {\n        code.and_then(|code| table.error(&code)).ok_or(Problem::UNRECOGNIZED_ERROR)?;\n    }\n    let (at, operation) = answered(table, &state.own, id, Operation::has_errors, problems)?;\n"),
     ("engine.rs", "user reject with problem 1", "!matches!(problem, 2..=4)", "!matches!(problem, 1..=4)"),
     ("engine.rs", "user reject retires nothing", "answer(state, at, Outgoing::Reject {", "let _ = at;\n    write(Outgoing::Reject {"),
     ("engine.rs", "forget of a peer's class 2 record", "matches!(operation.class, 1 | 2)", "matches!(operation.class, 1)"),
@@ -233,6 +233,61 @@ MUTANTS = [
     ("drive.rs", "10 has a place", "place: answer.place() }", "place: answer.place().max(usize::from(answer == Answer::Refused(crate::answer::Refusal::ValueRuleBroken))) }", "ends"),
     ("drive.rs", "an accepted call has a place", "place: answer.place() }", "place: answer.place().max(answer.written()) }", "ends"),
     ("line.rs", "place in hexadecimal", "format!(\" place {}\", self.place)", "format!(\" place {:x}\", self.place)"),
+    ("code.rs", "octets behind a name not tested", "\n        && name[1 + length..].iter().fold(0, |rubbish, octet| rubbish | octet) == 0\n", "\n"),
+    ("code.rs", "last octet behind a name not tested", "name[1 + length..].iter()", "name[1 + length..].iter().take(15 - length.min(15))"),
+    ("code.rs", "a name's contents not tested", "octets::is_object_identifier(contents(name))", "!contents(name).is_empty()"),
+    ("code.rs", "a name's first part may start with 80", "octets::is_object_identifier(contents(name))", "octets::is_object_identifier(contents(name).strip_prefix(&[0x80]).unwrap_or(contents(name)))"),
+    ("code.rs", "a name may be of length 17 and more", "length <= NAME_OCTETS\n        && octets::is_object_identifier(contents(name))\n        && name[1 + length..]", "octets::is_object_identifier(contents(name))\n        && name[1 + length.min(NAME_OCTETS)..]"),
+    ("code.rs", "a name may have no octets", "octets::is_object_identifier(contents(name))", "(length == 0 || octets::is_object_identifier(contents(name)))"),
+    ("code.rs", "a caller's name over 16 octets cut", "Asked::Name(contents) => Code::named(contents),", "Asked::Name(contents) => Code::named(&contents[..contents.len().min(NAME_OCTETS)]),"),
+    ("code.rs", "a caller's name of one octet taken for a local code", "Asked::Name(contents) => Code::named(contents),", "Asked::Name([octet]) => Some(Code::Local(i32::from(*octet))),\n            Asked::Name(contents) => Code::named(contents),"),
+    ("fields.rs", "a received 06 equals no code", "0x06 => Some(Code::named(field.contents())),", "0x06 => Some(None),", "ends"),
+    ("fields.rs", "a received name in long form equals no code", "0x06 => Some(Code::named(field.contents())),", "0x06 => Some(Code::named(field.contents()).filter(|_| field.whole[1] < 0x80)),"),
+    ("fields.rs", "a received name over 16 octets cut", "0x06 => Some(Code::named(field.contents())),", "0x06 => Some(Code::named(&field.contents()[..field.contents().len().min(16)])),"),
+    ("fields.rs", "a received name over 16 octets is of wrong fields", "0x06 => Some(Code::named(field.contents())),", "0x06 => Code::named(field.contents()).map(Some),"),
+    ("fields.rs", "a received name taken for the local code of its octets", "0x06 => Some(Code::named(field.contents())),", "0x06 => Some(octets::integer(field.contents()).map(Code::Local).or(Code::named(field.contents()))),"),
+    ("fields.rs", "a received local code taken for the name of its octets", "0x02 => Some(octets::integer(field.contents()).map(Code::Local)),", "0x02 => Some(Code::named(field.contents())),"),
+    ("apdu.rs", "a name written as a local code", "const NAME: u8 = 0x06;", "const NAME: u8 = 0x02;"),
+    ("apdu.rs", "a name measured without its identifier", "Asked::Name(contents) => element_octets(contents.len()),", "Asked::Name(contents) => element_octets(contents.len()) - 1,"),
+    ("apdu.rs", "a name written with the zeros behind it", "            writer.header(NAME, contents.len());\n            writer.put(contents);\n", "            writer.header(NAME, contents.len());\n            writer.put(&contents[..contents.len() - 1]);\n            writer.put(&[0]);\n"),
+    ("state.rs", "names of records not tested", "            && self.live().iter().all(|record| record.code.is_right())\n", ""),
+    ("state.rs", "only the first record's name tested", "all(|record| record.code.is_right())", "take(1).all(|record| record.code.is_right())"),
+    ("state.rs", "names behind the count sound", "Code::Name(_) => 1,", "Code::Name(_) => self.id,"),
+    ("table.rs", "edition 3 allowed", "[0xFF, 0xFF, 0x00, 0x02, ..]", "[0xFF, 0xFF, 0x00, 0x02 | 0x03, ..]"),
+    ("table.rs", "any edition allowed", "[0xFF, 0xFF, 0x00, 0x02, ..]", "[0xFF, 0xFF, _, _, ..]"),
+    ("table.rs", "edition 2 refused", "[0xFF, 0xFF, 0x00, 0x02, ..] => Some(&EDITION_2),", "[0xFF, 0xFF, 0x00, 0x02, ..] => None,"),
+    ("table.rs", "129 names allowed", "[64, 64, 256, 256, 128]", "[64, 64, 256, 256, 129]"),
+    ("table.rs", "127 names only", "[64, 64, 256, 256, 128]", "[64, 64, 256, 256, 127]"),
+    ("table.rs", "offset of the names not checked", "offset != starts[part] {", "(offset != starts[part] && part < 4) {\n                return None;\n            }\n            let offset = starts[part];\n            if count > MOST[part] {"),
+    ("table.rs", "names may stand twice", " && all_different(names)", ""),
+    ("table.rs", "names of the same 16 octets are the same", "if names[usize::from(slots[slot]) - 1] == *name {", "if names[usize::from(slots[slot]) - 1][1..] == name[1..] {"),
+    ("table.rs", "wrong names that nothing has allowed", "&& names_right(table.names)", "&& names_right(&table.names[..table.names.len().saturating_sub(1)])"),
+    ("table.rs", "flag 16 allowed", "flags: [15, 3]", "flags: [31, 3]"),
+    ("table.rs", "flag 8 refused", "flags: [15, 3]", "flags: [7, 3]"),
+    ("table.rs", "error flag 4 allowed", "flags: [15, 3]", "flags: [15, 7]"),
+    ("table.rs", "flag 8 allowed in edition 1", "flags: [3, 1]", "flags: [11, 1]"),
+    ("table.rs", "an operation's index one too large", "                & (place < end)\n", "                & (place <= end)\n"),
+    ("table.rs", "an error's index one too large", "right & rises & (place < end)", "right & rises & (place <= end)"),
+    ("table.rs", "indexes taken modulo 65,536", "true => FIRST_NAME + i64::from(number),", "true => FIRST_NAME + i64::from(number & 0xFFFF),"),
+    ("table.rs", "names' order against local codes not checked", "            let rises = before < place;\n            before = place;\n            right\n", "            let rises = before < place || before >= FIRST_NAME && place < FIRST_NAME;\n            before = place;\n            right\n"),
+    ("table.rs", "indexes may be equal", "            let rises = before < place;\n            before = place;\n            right\n", "            let rises = before < place || before == place && place >= FIRST_NAME;\n            before = place;\n            right\n"),
+    ("table.rs", "errors' indexes may be equal", "            let rises = before < place;\n            before = place;\n            right &", "            let rises = before < place || before == place && place >= FIRST_NAME;\n            before = place;\n            right &"),
+    ("table.rs", "names compared without their length", "position(|entry| entry == name)", "position(|entry| entry[1..] == name[1..])"),
+    ("table.rs", "names compared in their beginning", "position(|entry| entry == name)", "position(|entry| code::contents(entry).starts_with(code::contents(name)))"),
+    ("table.rs", "the last name never found", "self.names.iter().position(", "self.names.iter().take(self.names.len() - 1).position("),
+    ("table.rs", "an index taken for a local code", "Err(_) => Code::Name(self.names.get((place - FIRST_NAME) as usize).copied().unwrap_or_default()),", "Err(_) => Code::Local((place - FIRST_NAME) as i32),", "ends"),
+    ("table.rs", "a local code finds the name of that index", "Code::Local(code) => Some(i64::from(*code)),", "Code::Local(code) if (0..self.names.len() as i32).contains(code) => Some(place_of_name(*code as usize)),\n            Code::Local(code) => Some(i64::from(*code)),"),
+    ("table.rs", "refusal 1 by the names in place of the operations", "self.operation_index(wanted).is_some()", "match wanted {\n            Code::Name(name) => self.names.contains(name),\n            Code::Local(_) => self.operation_index(wanted).is_some(),\n        }"),
+    ("table.rs", "refusal 1 by local codes only", "self.operation_index(wanted).is_some()", "matches!(wanted, Code::Name(_)) || self.operation_index(wanted).is_some()"),
+    ("table.rs", "flag 2 of an error taken for its optional flag", "let code = self.code(error_place(entry));\n        ErrorEntry { index, code, parameter: Rule { kind, optional: flags & 1 != 0 } }", "let code = self.code(error_place(entry));\n        ErrorEntry { index, code, parameter: Rule { kind, optional: flags != 0 } }"),
+    ("table.rs", "an idempotent operation's argument optional", "argument: Rule { kind: argument, optional: flags & 1 != 0 },", "argument: Rule { kind: argument, optional: flags & 9 != 0 },"),
+    ("engine.rs", "a peer record keeps no name", "        state.peer.add(id, operation.code);\n", "        state.peer.add(id, if matches!(operation.code, Code::Name(_)) { Code::Local(operation.index as i32) } else { operation.code });\n", "ends"),
+    ("engine.rs", "an own record keeps no name", "        state.own.add(id, operation.code);\n    }\n    Ok(written)", "        state.own.add(id, if matches!(operation.code, Code::Name(_)) { Code::Local(operation.index as i32) } else { operation.code });\n    }\n    Ok(written)", "ends"),
+    ("engine.rs", "a result's name compared without its length", "code != Some(operation.code))", "match (code, operation.code) {\n        (Some(Code::Name(one)), Code::Name(other)) => one[1..] != other[1..],\n        (code, other) => code != Some(other),\n    })"),
+    ("engine.rs", "any 06 right in a result of a name", "code != Some(operation.code))", "code != Some(operation.code) && !matches!((code, operation.code), (Some(Code::Name(_)), Code::Name(_))))"),
+    ("engine.rs", "a result's name over 16 octets not compared", "code != Some(operation.code))", "code.is_some_and(|code| code != operation.code))"),
+    ("engine.rs", "a caller's name that no table can have refused with 10", "code.code().and_then(|code| table.operation(&code)).ok_or(Refusal::UnknownOperation)?;", "table.operation(&code.code().ok_or(Refusal::ValueRuleBroken)?).ok_or(Refusal::UnknownOperation)?;"),
+    ("engine.rs", "an error's name looked up among operations", "let error = code.code().and_then(|code| table.error(&code));", "let error = code.code().filter(|code| matches!(code, Code::Local(_)) || table.operation(code).is_none()).and_then(|code| table.error(&code));"),
 ]
 
 # File, what the change is, the text, the text in its place; found by `replays`.
@@ -296,7 +351,18 @@ REPLAY_MUTANTS = [
     ("replay.rs", "sent octets that are no APDU go by", "apdu::read(octets).map_err(|unreadable| How::Unreadable(unreadable.problem))?;", "match apdu::read(octets) {\n            Ok(apdu) => apdu,\n            Err(_) => return Ok(Step::PassedOver),\n        };"),
     ("replay.rs", "a 60,001st octet not seen", "(vec![0; most + 1], 0)", "(vec![0; most], 0)"),
     ("replay.rs", "an unreadable capture has no entries", ".unwrap_or_default();", ".unwrap_or_else(|| vec![0, 0, 0, 0, 0, 0, 0, 8]);"),
-    ("replay.rs", "a table of 2,960 octets cut", "TABLE_OCTETS: usize = 2960;", "TABLE_OCTETS: usize = 2958;"),
+    ("replay.rs", "a table of 5,144 octets cut", "TABLE_OCTETS: usize = 5144;", "TABLE_OCTETS: usize = 5142;"),
+    ("replay.rs", "a table of edition 2 cut as one of edition 1 would be", "TABLE_OCTETS: usize = 5144;", "TABLE_OCTETS: usize = 2959;"),
+    ("replay.rs", "an invoke with a name fits no call", "let code = code.ok_or(How::ForeignCode)?;\n                let asked", "let code = code.filter(|code| !matches!(code, crate::code::Code::Name(_))).ok_or(How::ForeignCode)?;\n                let asked"),
+    ("replay.rs", "an error with a name fits no call", "let code = code.ok_or(How::ForeignCode)?;\n                (\"error\"", "let code = code.filter(|code| !matches!(code, crate::code::Code::Name(_))).ok_or(How::ForeignCode)?;\n                (\"error\""),
+    ("replay.rs", "a sent name's long form goes by", "if self.output[..written] == *octets {", "if self.output[..written] == *octets || (octets.len() > written && matches!(apdu, Apdu::Invoke(Invoke { code: Some(crate::code::Code::Name(_)), .. }) | Apdu::Error { code: Some(crate::code::Code::Name(_)), .. })) {"),
+]
+
+
+# Changes that only the changed program itself can find, by its own `ends`: what it asks of the tables it draws.
+OWN_MUTANTS = [
+    ("model.rs", "idempotent compared by extends", "(n.class, n.argument, n.result) == (o.class, o.argument, o.result)", "(n.class, n.argument, n.result, n.idempotent) == (o.class, o.argument, o.result, o.idempotent)"),
+    ("model.rs", "names compared by their indexes in extends", "n.operation(&o.code).filter(", "n.operations().nth(o.index).filter("),
 ]
 
 
@@ -353,12 +419,21 @@ def try_replay_mutant(folder, unchanged, mutant):
     return f"seed {where[1]}" if where else "NOT FOUND", bool(where) and found.returncode == 1
 
 
+def try_own_mutant(folder, mutant):
+    """Whether the changed program's own ends fails."""
+    wrong = build(folder, mutant)
+    if wrong:
+        return wrong, False
+    run = subprocess.run([folder / "target" / "debug" / "second", "ends", "1", ENDS_CALLS], capture_output=True, text=True)
+    return "found" if run.returncode != 0 else "NOT FOUND", run.returncode != 0
+
+
 def main():
     word = sys.argv[1] if len(sys.argv) > 1 else ""
-    chosen, chosen_replays = (
-        [mutant for mutant in mutants if word in mutant[0] or word in mutant[1]] for mutants in (MUTANTS, REPLAY_MUTANTS)
+    chosen, chosen_replays, chosen_own = (
+        [mutant for mutant in mutants if word in mutant[0] or word in mutant[1]] for mutants in (MUTANTS, REPLAY_MUTANTS, OWN_MUTANTS)
     )
-    if not chosen and not chosen_replays:
+    if not chosen and not chosen_replays and not chosen_own:
         sys.exit(f"mutants: no change has '{word}' in its place or description; give another word or none")
     built = cargo(SECOND, SECOND / "target", "--release")
     if built.returncode != 0:
@@ -381,7 +456,13 @@ def main():
             place, right = try_replay_mutant(folder, unchanged, mutant)
             failed += not right
             print(f"{mutant[0]:11} {mutant[1]:52} {place}{'' if right else '  FAILED'}", flush=True)
-    count = len(chosen) + len(chosen_replays)
+        if chosen_own:
+            print(f"{'place':11} {'change':52} its own ends")
+        for mutant in chosen_own:
+            found, right = try_own_mutant(folder, mutant)
+            failed += not right
+            print(f"{mutant[0]:11} {mutant[1]:52} {found}{'' if right else '  FAILED'}", flush=True)
+    count = len(chosen) + len(chosen_replays) + len(chosen_own)
     print(f"{count - failed} of {count} changes found")
     sys.exit(1 if failed else 0)
 

@@ -1,12 +1,18 @@
 // The rule that an entry breaks, in words.
+use crate::entry::name_digits;
 use crate::entry::part_name;
+use codes::Form;
+use codes::Name;
 use optable::Breach;
+use optable::Edition;
 use optable::Operation;
 use optable::Part;
 use optable::Rule;
 use optable::read::count;
+use optable::read::edition;
 use optable::read::error_at;
 use optable::read::first_at;
+use optable::read::name_at;
 use optable::read::octet_at;
 use optable::read::operation_at;
 use optable::read::second_at;
@@ -29,12 +35,26 @@ fn flags_of(table: &[u8], part: Part, i: u16) -> u8 {
     }
 }
 
-fn flags_breach(fd: i32, part: Part, flags: u8) {
+fn operation_flags(fd: i32, e: Edition) {
+    match e {
+        Edition::First => words(fd, b", expected 00 to 03"),
+        Edition::Second => words(fd, b", expected 00 to 0f"),
+    }
+}
+
+fn error_flags(fd: i32, e: Edition) {
+    match e {
+        Edition::First => words(fd, b", expected 00 or 01"),
+        Edition::Second => words(fd, b", expected 00 to 03"),
+    }
+}
+
+fn flags_breach(fd: i32, e: Edition, part: Part, flags: u8) {
     words(fd, b"flags are ");
     octet(fd, flags);
     match part {
-        Part::Operations => words(fd, b", expected 00 to 03"),
-        _ => words(fd, b", expected 00 or 01"),
+        Part::Operations => operation_flags(fd, e),
+        _ => error_flags(fd, e),
     }
 }
 
@@ -57,7 +77,7 @@ fn unexpected_breach(fd: i32, operation: Operation) {
     decimal(fd, operation.class() as u64);
 }
 
-fn index_breach(fd: i32, name: &[u8], index: u16, limit: u16) {
+fn index_breach(fd: i32, name: &[u8], index: u32, limit: u16) {
     words(fd, name);
     words(fd, b" index is ");
     decimal(fd, index as u64);
@@ -65,14 +85,24 @@ fn index_breach(fd: i32, name: &[u8], index: u16, limit: u16) {
     decimal(fd, limit as u64);
 }
 
+// The index of a name stands in four octets, where a pair has its two indexes.
+fn name_index(table: &[u8], part: Part, i: u16) -> u32 {
+    (first_at(table, part, i) as u32) * 65536 + (second_at(table, part, i) as u32)
+}
+
+fn name_index_breach(fd: i32, table: &[u8], part: Part, i: u16) {
+    let limit = count(table, Part::Names);
+    index_breach(fd, b"name", name_index(table, part, i), limit);
+}
+
 fn first_breach(fd: i32, table: &[u8], part: Part, i: u16) {
     let limit = count(table, Part::Operations);
-    index_breach(fd, b"first", first_at(table, part, i), limit);
+    index_breach(fd, b"first", first_at(table, part, i) as u32, limit);
 }
 
 fn second_breach(fd: i32, table: &[u8], part: Part, i: u16) {
     let limit = count(table, second_part(part));
-    index_breach(fd, b"second", second_at(table, part, i), limit);
+    index_breach(fd, b"second", second_at(table, part, i) as u32, limit);
 }
 
 fn pair_class_breach(fd: i32, table: &[u8], part: Part, i: u16) {
@@ -92,6 +122,7 @@ fn is_pair(part: Part) -> bool {
         Part::Errors => false,
         Part::ErrorPairs => true,
         Part::ChildPairs => true,
+        Part::Names => false,
     }
 }
 
@@ -103,11 +134,47 @@ fn order_breach(fd: i32, part: Part) {
     words(fd, b"codes do not rise");
 }
 
+fn length_breach(fd: i32, length: u8) {
+    words(fd, b"length is ");
+    decimal(fd, length as u64);
+    words(fd, b", expected 1 to 16");
+}
+
+fn form_breach(fd: i32, name: Name, form: Form) {
+    match form {
+        Form::Right => {}
+        Form::Length => length_breach(fd, name.length),
+        Form::Contents => {
+            name_digits(fd, name);
+            words(fd, b" is no OBJECT IDENTIFIER");
+        }
+        Form::Padding => words(fd, b"octets behind its length are not 0"),
+    }
+}
+
+// The first index that has the name at an index.
+fn first_same(table: &[u8], i: u16) -> u16 {
+    let name = name_at(table, i as u32);
+    let mut j: u16 = 0;
+    while j < i {
+        if name_at(table, j as u32).same(name) {
+            return j;
+        }
+        j += 1;
+    }
+    j
+}
+
+fn repeated_breach(fd: i32, table: &[u8], i: u16) {
+    words(fd, b"the same as name ");
+    decimal(fd, first_same(table, i) as u64);
+}
+
 pub(crate) fn breach_words(fd: i32, table: &[u8], part: Part, i: u16, breach: Breach) {
     match breach {
         Breach::Unbroken => {}
         Breach::Class => class_breach(fd, operation_at(table, i).class()),
-        Breach::Flags => flags_breach(fd, part, flags_of(table, part, i)),
+        Breach::Flags => flags_breach(fd, edition(table), part, flags_of(table, part, i)),
         Breach::ArgumentFlag => flag_breach(fd, b"argument"),
         Breach::ArgumentType => { type_breach(fd, b"argument", operation_at(table, i).argument()) }
         Breach::ResultFlag => flag_breach(fd, b"result"),
@@ -115,9 +182,12 @@ pub(crate) fn breach_words(fd: i32, table: &[u8], part: Part, i: u16, breach: Br
         Breach::ResultUnexpected => unexpected_breach(fd, operation_at(table, i)),
         Breach::ParameterFlag => flag_breach(fd, b"parameter"),
         Breach::ParameterType => { type_breach(fd, b"parameter", error_at(table, i).parameter()) }
+        Breach::NameIndex => name_index_breach(fd, table, part, i),
         Breach::FirstIndex => first_breach(fd, table, part, i),
         Breach::SecondIndex => second_breach(fd, table, part, i),
         Breach::PairClass => pair_class_breach(fd, table, part, i),
+        Breach::NameForm(form) => form_breach(fd, name_at(table, i as u32), form),
         Breach::Order => order_breach(fd, part),
+        Breach::Repeated => repeated_breach(fd, table, i),
     }
 }

@@ -6,6 +6,8 @@ mod fault;
 pub mod files;
 mod missing;
 
+use codes::Code;
+use entry::code_words;
 use entry::entry_name;
 use entry::fields;
 use fault::place;
@@ -13,10 +15,21 @@ use fault::reason;
 use missing::has_changed;
 use missing::missing;
 use missing::new_fields;
+use optable::Edition;
 use optable::Fault;
 use optable::Part;
 use optable::read::count;
+use optable::read::edition;
+use optable::read::end;
 use text::out::words;
+
+// Where a table's last part ends, by its header.
+pub fn length_of(table: &[u8]) -> usize {
+    match edition(table) {
+        Edition::First => end(table, Part::ChildPairs),
+        Edition::Second => end(table, Part::Names),
+    }
+}
 
 fn print_entry(fd: i32, table: &[u8], part: Part, i: u16) {
     words(fd, b"  ");
@@ -34,12 +47,26 @@ fn print_part(fd: i32, table: &[u8], part: Part) {
     }
 }
 
-// The entries of a valid table, a line each.
+fn print_edition(fd: i32, e: Edition) {
+    match e {
+        Edition::First => {}
+        Edition::Second => words(fd, b"  edition 2\n"),
+    }
+}
+
+// The edition and the entries of a valid table, a line each.
 pub fn print_table(fd: i32, table: &[u8]) {
+    print_edition(fd, edition(table));
     print_part(fd, table, Part::Operations);
     print_part(fd, table, Part::Errors);
     print_part(fd, table, Part::ErrorPairs);
     print_part(fd, table, Part::ChildPairs);
+    print_part(fd, table, Part::Names);
+}
+
+// A code with what it is, as `code 7` or `name 2b0601`.
+pub fn print_code(fd: i32, code: Code) {
+    code_words(fd, code);
 }
 
 // A table's fault without the place it is at.

@@ -5,6 +5,7 @@ use libc::STDERR_FILENO;
 use libc::STDOUT_FILENO;
 use listing::files::Contents;
 use listing::files::file_name;
+use listing::files::table_buffer;
 use optable::Extension;
 use optable::Part;
 use optable::first_fault;
@@ -49,21 +50,21 @@ fn report(new_name: &[u8], new: &[u8], old_name: &[u8], old: &[u8]) {
 }
 
 fn compare_new(new_name: &[u8], old_name: &[u8], old: &[u8]) {
-    let mut new = io::buffer();
+    let mut new = table_buffer();
     let Contents::Of(size) = listing::files::read(new_name, &mut new) else {
         return;
     };
-    if size <= 4096 {
+    if size <= 5145 {
         report(new_name, &new[0..size], old_name, old);
     }
 }
 
 fn compare_files(old_name: &[u8], new_name: &[u8]) {
-    let mut old = io::buffer();
+    let mut old = table_buffer();
     let Contents::Of(size) = listing::files::read(old_name, &mut old) else {
         return;
     };
-    if size <= 4096 {
+    if size <= 5145 {
         compare_new(new_name, old_name, &old[0..size]);
     }
 }

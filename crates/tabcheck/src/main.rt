@@ -7,6 +7,7 @@ use libc::STDOUT_FILENO;
 use listing::files::Contents;
 use listing::files::file_name;
 use listing::files::is_argument;
+use listing::files::table_buffer;
 use optable::Fault;
 use optable::first_fault;
 use text::out::decimal;
@@ -24,8 +25,8 @@ fn report_valid(table: &[u8]) {
 }
 
 pub(crate) fn report_fault(table: &[u8], fault: Fault) {
-    if table.len() > 4095 {
-        say(b": longer than any table, which has at most 2960 octets\n");
+    if table.len() > 5144 {
+        say(b": longer than any table, which has at most 5144 octets\n");
         return;
     }
     say(b": ");
@@ -87,6 +88,6 @@ fn main() {
         compare(count);
         return;
     }
-    let mut table = io::buffer();
+    let mut table = table_buffer();
     check_all(count, &mut table);
 }

@@ -1,5 +1,7 @@
 //! What the six calls answer: indications, refusals and problems.
-//! Follows document 01, "Receiving" and the table of refusal numbers, with document 02, request Four.
+//! Follows document 01, "Receiving" and the table of refusal numbers, with document 02, requests Four and Five.
+
+use crate::code::Code;
 
 /// The calls and the refusals each can give, in order of check.
 pub const REFUSALS: [(&str, &[u8]); 6] = [
@@ -57,24 +59,24 @@ pub enum Indication<'a> {
     Invoke {
         id: i32,
         linked: Option<i32>,
-        code: i32,
+        code: Code,
         value: Option<&'a [u8]>,
     },
     Result {
         id: i32,
-        code: i32,
+        code: Code,
         value: &'a [u8],
-        operation: i32,
+        operation: Code,
     },
     AbsentResult {
         id: i32,
-        operation: i32,
+        operation: Code,
     },
     Error {
         id: i32,
-        code: i32,
+        code: Code,
         value: Option<&'a [u8]>,
-        operation: i32,
+        operation: Code,
     },
     /// RO-REJECT-U: an invoke, result or error problem.
     UserReject {

@@ -1,7 +1,8 @@
 //! The four APDUs: reading their fields from received octets, measuring and writing outgoing ones.
-//! Follows document 01, "The four APDUs" and step 1 of "Receiving", with document 02, request Three.
+//! Follows document 01, "The four APDUs" and step 1 of "Receiving", with document 02, requests Three and Five.
 
 use crate::answer::Problem;
+use crate::code::{Asked, Code};
 use crate::fields::Fields;
 use crate::octets::{self, element_octets, integer_octets, Writer};
 use crate::state::State;
@@ -12,17 +13,19 @@ pub const ERROR: u8 = 0xA3;
 pub const REJECT: u8 = 0xA4;
 
 const ID: u8 = 0x02;
+const LOCAL: u8 = 0x02;
+const NAME: u8 = 0x06;
 const NO_ID: u8 = 0x05;
 const LINKED: u8 = 0x80;
 const NO_LINKED: u8 = 0x81;
 const SEQUENCE: u8 = 0x30;
 
-/// A received APDU with right fields.
+/// A received APDU with right fields. A code is none where no table can have it: an 02 over four octets, a 06 over 16.
 #[derive(Clone, Copy, PartialEq, Eq)]
 pub enum Apdu<'a> {
     Invoke(Invoke<'a>),
-    Result { id: i32, returned: Option<(Code, &'a [u8])> },
-    Error { id: i32, code: Code, value: Option<&'a [u8]> },
+    Result { id: i32, returned: Option<(Option<Code>, &'a [u8])> },
+    Error { id: i32, code: Option<Code>, value: Option<&'a [u8]> },
     Reject { id: Option<i32>, problem: Problem },
 }
 
@@ -41,24 +44,8 @@ impl<'a> Apdu<'a> {
 pub struct Invoke<'a> {
     pub id: i32,
     pub linked: Option<i32>,
-    pub code: Code,
+    pub code: Option<Code>,
     pub value: Option<&'a [u8]>,
-}
-
-/// A received code: a 06, or an 02 over four octets, equals no table code.
-#[derive(Clone, Copy, PartialEq, Eq)]
-pub enum Code {
-    Local(i32),
-    Foreign,
-}
-
-impl Code {
-    pub fn local(self) -> Option<i32> {
-        match self {
-            Code::Local(code) => Some(code),
-            Code::Foreign => None,
-        }
-    }
 }
 
 /// Why octets are no APDU with right fields, and the id that a Reject to them carries.
@@ -134,9 +121,9 @@ fn read_reject<'a>(fields: &mut Fields<'a>) -> Option<Apdu<'a>> {
 /// An APDU to write; no value is an empty slice.
 #[derive(Clone, Copy)]
 pub enum Outgoing<'a> {
-    Invoke { id: i32, linked: Option<i32>, code: i32, value: &'a [u8] },
-    Result { id: i32, code: i32, value: &'a [u8] },
-    Error { id: i32, code: i32, value: &'a [u8] },
+    Invoke { id: i32, linked: Option<i32>, code: Asked<'a>, value: &'a [u8] },
+    Result { id: i32, code: Asked<'a>, value: &'a [u8] },
+    Error { id: i32, code: Asked<'a>, value: &'a [u8] },
     Reject { id: Option<i32>, problem: Problem },
 }
 
@@ -158,11 +145,11 @@ impl Outgoing<'_> {
     fn contents(&self) -> usize {
         match *self {
             Outgoing::Invoke { id, linked, code, value } => {
-                number(id) + linked.map_or(0, number) + number(code) + value.len()
+                number(id) + linked.map_or(0, number) + code_octets(code) + value.len()
             }
             Outgoing::Result { id, value: [], .. } => number(id),
-            Outgoing::Result { id, code, value } => number(id) + element_octets(number(code) + value.len()),
-            Outgoing::Error { id, code, value } => number(id) + number(code) + value.len(),
+            Outgoing::Result { id, code, value } => number(id) + element_octets(code_octets(code) + value.len()),
+            Outgoing::Error { id, code, value } => number(id) + code_octets(code) + value.len(),
             Outgoing::Reject { id, .. } => id.map_or(2, number) + 3,
         }
     }
@@ -177,19 +164,19 @@ impl Outgoing<'_> {
                 if let Some(linked) = linked {
                     writer.integer(LINKED, linked);
                 }
-                writer.integer(ID, code);
+                write_code(&mut writer, code);
                 writer.put(value);
             }
             Outgoing::Result { id, value: [], .. } => writer.integer(ID, id),
             Outgoing::Result { id, code, value } => {
                 writer.integer(ID, id);
-                writer.header(SEQUENCE, number(code) + value.len());
-                writer.integer(ID, code);
+                writer.header(SEQUENCE, code_octets(code) + value.len());
+                write_code(&mut writer, code);
                 writer.put(value);
             }
             Outgoing::Error { id, code, value } => {
                 writer.integer(ID, id);
-                writer.integer(ID, code);
+                write_code(&mut writer, code);
                 writer.put(value);
             }
             Outgoing::Reject { id, problem } => write_reject(&mut writer, id, problem),
@@ -215,6 +202,24 @@ fn write_reject(writer: &mut Writer<'_>, id: Option<i32>, problem: Problem) {
     let (identifier, number) = problem.octets();
     writer.header(identifier, 1);
     writer.put(&[number]);
+}
+
+fn write_code(writer: &mut Writer<'_>, code: Asked<'_>) {
+    match code {
+        Asked::Local(code) => writer.integer(LOCAL, code),
+        Asked::Name(contents) => {
+            writer.header(NAME, contents.len());
+            writer.put(contents);
+        }
+    }
+}
+
+/// How many octets a code takes as an element.
+fn code_octets(code: Asked<'_>) -> usize {
+    match code {
+        Asked::Local(code) => number(code),
+        Asked::Name(contents) => element_octets(contents.len()),
+    }
 }
 
 /// How many octets a number takes as an element.

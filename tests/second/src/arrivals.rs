@@ -1,7 +1,10 @@
 //! The generator's received APDUs: fitting the state reached, with wrong fields and damaged octets among them.
 
+use crate::code::Code;
 use crate::frame::{self, Frame};
 use crate::generate::{live, Generator, Group};
+use crate::names::{self, Wanted};
+use crate::octets::is_object_identifier;
 use crate::table::Rule;
 use crate::values::{self, element, element_in_form, integer_contents};
 
@@ -37,21 +40,26 @@ impl Generator<'_> {
 
     fn arriving_invoke(&mut self) -> Vec<u8> {
         let mut row = self.random.pick(&self.model.operations);
+        let mut listed = true;
         let mut fields = vec![self.number(0x02, |this| this.id(false, false))];
         if self.random.percent(35) {
             let parent = self.parent(true).filter(|_| !self.fault());
             let id = parent.map_or_else(|| self.id(true, false), |record| record.id);
             let child = parent.and_then(|parent| self.child(parent));
             row = child.filter(|_| !self.fault() && self.random.percent(88)).or(row);
+            listed = row == child;
             fields.push(self.number(0x80, |_| id));
         } else if self.random.percent(12) {
             let form = values::form(&mut self.random, 0);
             fields.push(element_in_form(0x81, &[], form));
         }
-        let known = row.filter(|_| !self.fault()).map(|row| row.code);
+        let known = row.filter(|_| !self.fault()).map(|row| row.code.into());
         fields.push(self.code(known));
-        let value = self.value(row.map_or(Rule { kind: 0, optional: false }, |row| row.argument_rule()));
-        fields.push(value);
+        let rule = row.map_or(Rule { kind: 0, optional: false }, |row| row.argument_rule());
+        fields.push(match !listed && self.random.percent(25) {
+            true => self.wrong_value(rule),
+            false => self.value(rule),
+        });
         self.apdu(0xA1, fields)
     }
 
@@ -65,7 +73,7 @@ impl Generator<'_> {
             let other = self.random.pick(&self.model.operations).filter(|_| self.random.percent(60));
             let wrong = self.fault() || self.trouble > 0 && self.random.percent(15);
             let returned = if wrong { other } else { row };
-            let inner = vec![self.code(returned.map(|row| row.code)), value];
+            let inner = vec![self.code(returned.map(|row| row.code.into())), value];
             fields.push(self.apdu(0x30, inner));
         }
         self.apdu(0xA2, fields)
@@ -74,7 +82,7 @@ impl Generator<'_> {
     fn arriving_error(&mut self) -> Vec<u8> {
         let record = live(&mut self.random, &self.drive.state.own).filter(|_| !self.fault());
         let id = record.map_or_else(|| self.id(true, false), |record| record.id);
-        let (code, rule) = self.error_code(record.map_or(0, |record| record.code));
+        let (code, rule) = self.error_code(record.map_or(Code::default(), |record| record.code));
         let code = Some(code).filter(|_| !self.fault() || self.random.percent(50));
         let fields = vec![self.number(0x02, |_| id), self.code(code), self.value(rule)];
         self.apdu(0xA3, fields)
@@ -111,18 +119,22 @@ impl Generator<'_> {
     }
 
     /// A code of the table, or one that equals none.
-    fn code(&mut self, known: Option<i32>) -> Vec<u8> {
-        match known {
-            Some(code) => self.number(0x02, |_| code),
-            None => match self.random.below(4) {
-                0 => element(0x06, &[0x2A, self.random.octet() & 0x7F]),
-                1 => element(0x02, &[0x01, 0, 0, 0, self.random.octet()]),
-                2 => element(0x06, &integer_contents(self.random.below(40) as i32)),
-                _ => {
-                    let code = self.unknown_code();
-                    self.number(0x02, |_| code)
-                }
+    fn code(&mut self, known: Option<Wanted>) -> Vec<u8> {
+        let code = match known {
+            Some(Wanted::Local(code)) => return self.number(0x02, |_| code),
+            Some(code) => code,
+            None => match self.random.below(6) {
+                0 => return element(0x02, &[0x01, 0, 0, 0, self.random.octet()]),
+                1 => return element(0x06, &integer_contents(self.random.below(40) as i32)),
+                2 => Wanted::Name(names::long(&mut self.random, self.model.names())),
+                _ => self.unknown_code(),
             },
+        };
+        match code {
+            Wanted::Name(contents) if !is_object_identifier(&contents) => {
+                element(0x06, &[0x2A, contents.len() as u8 & 0x7F])
+            }
+            code => code.element(&mut self.random),
         }
     }
 

@@ -4,7 +4,8 @@
 use std::collections::{HashMap, HashSet};
 
 use crate::answer::{Answer, Indication, Problem, Refusal};
-use crate::apdu::{self, Apdu, Code};
+use crate::apdu::{self, Apdu};
+use crate::code::Code;
 use crate::frame::{self, Frame};
 use crate::octets;
 use crate::show;
@@ -20,13 +21,13 @@ pub enum End {
 #[derive(Clone, Debug, PartialEq, Eq)]
 struct Given {
     id: i32,
-    operation: Option<i32>,
-    error: Option<i32>,
+    operation: Option<Code>,
+    error: Option<Code>,
     value: Option<Vec<u8>>,
 }
 
 /// What must occur often enough in a long run.
-pub const ROWS: [&str; 16] = [
+pub const ROWS: [&str; 27] = [
     "results",
     "absent results",
     "errors",
@@ -43,14 +44,25 @@ pub const ROWS: [&str; 16] = [
     "invokes heard with an indefinite value",
     "values at fault refused with 9",
     "values with octets behind refused with 21",
+    "invokes asked with a name",
+    "results of an operation with a name",
+    "errors with a name",
+    "unlisted errors with a name, O lacks the name",
+    "unlisted errors with a name, O lacks the pair",
+    "answers of a name that N numbers otherwise",
+    "answers of an operation that only N marks idempotent",
+    "answers, both tables of edition 1",
+    "answers, O of edition 1 and N of edition 2",
+    "answers, O of edition 2 and N of edition 1",
+    "answers, both tables of edition 2",
 ];
 
 /// The book of one association, and how often each row occurred.
 #[derive(Default)]
 pub struct Book {
     wire: [Vec<Vec<u8>>; 2],
-    asked: HashMap<i32, i32>,
-    heard: HashMap<i32, i32>,
+    asked: HashMap<i32, Code>,
+    heard: HashMap<i32, Code>,
     given: HashMap<i32, Vec<Given>>,
     answers: HashMap<Vec<u8>, Vec<Given>>,
     live: HashSet<i32>,
@@ -72,11 +84,11 @@ impl Book {
         &self.live
     }
 
-    fn count(&mut self, row: &str) {
+    pub fn count(&mut self, row: &str) {
         self.count_if(true, row);
     }
 
-    fn count_if(&mut self, occurred: bool, row: &str) {
+    pub fn count_if(&mut self, occurred: bool, row: &str) {
         let at = ROWS.iter().position(|name| *name == row);
         self.counts[at.expect("only named rows are counted")] += u64::from(occurred);
     }
@@ -126,9 +138,12 @@ impl Book {
                     if !right {
                         return Err(format!("the unlisted {given:?} gave {answer:?} in place of {problem:?}"));
                     }
-                    self.count(match problem {
-                        Problem::UNRECOGNIZED_ERROR => "unlisted errors, O lacks the code",
-                        _ => "unlisted errors, O lacks the pair",
+                    let is_name = matches!(given.error, Some(Code::Name(_)));
+                    self.count(match (problem, is_name) {
+                        (Problem::UNRECOGNIZED_ERROR, false) => "unlisted errors, O lacks the code",
+                        (Problem::UNRECOGNIZED_ERROR, true) => "unlisted errors with a name, O lacks the name",
+                        (_, false) => "unlisted errors, O lacks the pair",
+                        (_, true) => "unlisted errors with a name, O lacks the pair",
                     });
                 }
                 (false, _) if self.indicated.contains(&given.id) => self.count("repeated answers"),
@@ -159,16 +174,20 @@ impl Book {
             return Err(format!("{shown:?} was indicated, the second for its id"));
         }
         self.count(row);
+        self.count_if(error.is_none() && matches!(operation, Code::Name(_)), "results of an operation with a name");
+        self.count_if(matches!(error, Some(Code::Name(_))), "errors with a name");
         Ok(())
     }
 
     fn note_kiosk(&mut self, o: &Table<'_>, frame: &Frame<'_>) -> Result<(), String> {
         match (frame.kind, apdu::read(frame.payload)) {
             (frame::INVOKE, _) => {
-                if self.asked.insert(frame.id, frame.code).is_some() {
+                let code = frame.asked().code().ok_or("an invoke of a code that no table has was accepted")?;
+                self.count_if(matches!(code, Code::Name(_)), "invokes asked with a name");
+                if self.asked.insert(frame.id, code).is_some() {
                     return Err(format!("id {} was used for two invocations", frame.id));
                 }
-                if o.operation(frame.code).is_some_and(|operation| operation.class == 5) {
+                if o.operation(&code).is_some_and(|operation| operation.class == 5) {
                     self.count("class 5 invokes");
                 } else {
                     self.live.insert(frame.id);
@@ -194,7 +213,7 @@ impl Book {
     fn note_controller(&mut self, frame: &Frame<'_>, written: &[u8]) {
         match (frame.kind, apdu::read(frame.payload)) {
             (frame::RECEIVE, Ok(Apdu::Invoke(invoke))) => {
-                if let Code::Local(code) = invoke.code {
+                if let Some(code) = invoke.code {
                     self.heard.insert(invoke.id, code);
                 }
                 let indefinite = invoke.value.is_some_and(octets::is_indefinite);
@@ -205,12 +224,12 @@ impl Book {
                     frame::RESULT => "results given with an indefinite value",
                     _ => "errors given with an indefinite value",
                 };
-                self.count_if(octets::is_indefinite(frame.payload), row);
+                self.count_if(octets::is_indefinite(frame.value()), row);
                 let given = Given {
                     id: frame.id,
                     operation: self.heard.get(&frame.id).copied(),
-                    error: (frame.kind == frame::ERROR).then_some(frame.code),
-                    value: (!frame.payload.is_empty()).then(|| frame.payload.to_vec()),
+                    error: frame.asked().code().filter(|_| frame.kind == frame::ERROR),
+                    value: (!frame.value().is_empty()).then(|| frame.value().to_vec()),
                 };
                 self.answers.entry(written.to_vec()).or_default().push(given.clone());
                 self.given.entry(frame.id).or_default().push(given);
@@ -221,8 +240,8 @@ impl Book {
 }
 
 /// Why O does not list the error for the operation, if it does not.
-fn unlisted(o: &Table<'_>, operation: Option<i32>, error: i32) -> Option<Problem> {
-    let Some(error) = o.error(error) else { return Some(Problem::UNRECOGNIZED_ERROR) };
-    let listed = operation.and_then(|code| o.operation(code)).is_some_and(|row| o.lists_error(&row, &error));
+fn unlisted(o: &Table<'_>, operation: Option<Code>, error: Code) -> Option<Problem> {
+    let Some(error) = o.error(&error) else { return Some(Problem::UNRECOGNIZED_ERROR) };
+    let listed = operation.and_then(|code| o.operation(&code)).is_some_and(|row| o.lists_error(&row, &error));
     (!listed).then_some(Problem::UNEXPECTED_ERROR)
 }

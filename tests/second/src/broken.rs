@@ -1,7 +1,9 @@
 //! Valid tables with rules of docs/TABLES.md, "The first fault", broken at a random place.
 
-use crate::first_fault::RULES;
+use crate::code::{self, Code, Name};
+use crate::first_fault::{LONGEST_FILE, RULES};
 use crate::model::{any_type, Model, OperationRow};
+use crate::names;
 use crate::random::Random;
 
 /// Breaks a rule in the rows of a table, or in its octets; none where the table has no place for it.
@@ -15,12 +17,16 @@ use Break::{Octets, Rows};
 
 /// How to break each rule, in the order of `RULES`.
 const BREAKS: [Break; RULES.len()] = [
-    Octets(|octets, random| lengthen(octets, [4096, random.between(4096, 5000)][random.below(2)])),
-    Octets(|octets, random| shorten(octets, random.below(16))),
+    Octets(|octets, random| {
+        lengthen(octets, [LONGEST_FILE + 1, random.between(LONGEST_FILE + 1, 6000)][random.below(2)])
+    }),
+    Octets(edition),
+    Octets(header_length),
     Octets(|octets, random| offset(octets, 0, random)),
     Octets(|octets, random| offset(octets, 1, random)),
     Octets(|octets, random| offset(octets, 2, random)),
     Octets(|octets, random| offset(octets, 3, random)),
+    Octets(|octets, random| if is_second(octets) { offset(octets, 4, random) } else { None }),
     Octets(table_length),
     Rows(|model, random| count(model, 0, random)),
     Rows(|model, random| {
@@ -29,7 +35,8 @@ const BREAKS: [Break; RULES.len()] = [
         Some(())
     }),
     Rows(|model, random| {
-        let flags = random.octet() | 1 << random.between(2, 7);
+        let (low, kept) = if model.names.is_some() { (4, 0xFB) } else { (2, 0xFF) };
+        let flags = random.octet() & kept | 1 << random.between(low, 7);
         operation(model, random)?.flags |= flags;
         Some(())
     }),
@@ -57,15 +64,17 @@ const BREAKS: [Break; RULES.len()] = [
         row.result = any_type(random).max(1);
         Some(())
     }),
+    Octets(|octets, random| name_index(octets, 0, random)),
     Rows(|model, random| {
         let at = behind_the_first(model.operations.len(), random)?;
-        model.operations[at].code = at_most(model.operations[at - 1].code, random);
+        model.operations[at].code = at_most(model.operations[at - 1].code, model.names(), random);
         Some(())
     }),
     Rows(|model, random| count(model, 1, random)),
     Rows(|model, random| {
         let at = any(model.errors.len(), random)?;
-        model.errors[at].optional = random.octet().max(2);
+        model.errors[at].optional =
+            if model.names.is_some() { random.octet() & 0xFD | 4 } else { random.octet().max(2) };
         Some(())
     }),
     Rows(|model, random| {
@@ -78,9 +87,10 @@ const BREAKS: [Break; RULES.len()] = [
         model.errors[at].parameter = high_tag(random);
         Some(())
     }),
+    Octets(|octets, random| name_index(octets, 1, random)),
     Rows(|model, random| {
         let at = behind_the_first(model.errors.len(), random)?;
-        model.errors[at].code = at_most(model.errors[at - 1].code, random);
+        model.errors[at].code = at_most(model.errors[at - 1].code, model.names(), random);
         Some(())
     }),
     Rows(|model, random| count(model, 2, random)),
@@ -93,6 +103,20 @@ const BREAKS: [Break; RULES.len()] = [
     Rows(|model, random| second_index(model.operations.len(), &mut model.child_pairs, random)),
     Rows(|model, random| class(&model.operations, 5, &mut model.child_pairs, random)),
     Rows(|model, random| order(model.allowed_child_pairs(), &mut model.child_pairs, random)),
+    Rows(name_count),
+    Octets(|octets, random| {
+        let at = any_name(octets, random)?;
+        octets[at] = [0, 17, 32, 128, 255, random.octet() | 0x11][random.below(6)];
+        Some(())
+    }),
+    Rows(name_contents),
+    Octets(name_padding),
+    Rows(|model, random| {
+        let names = model.names.as_mut().filter(|names| names.len() < Model::MOST[4])?;
+        let again = random.pick(names)?;
+        names.push(again);
+        Some(())
+    }),
 ];
 
 /// A valid table with one rule broken, by its place in `RULES`.
@@ -120,7 +144,7 @@ pub fn two(random: &mut Random) -> Vec<u8> {
 pub fn disturbed(random: &mut Random) -> Vec<u8> {
     let mut octets = Model::varied(random).octets();
     for _ in 0..random.between(1, 3) {
-        let most = if random.percent(20) { 16 } else { octets.len() };
+        let most = if random.percent(20) { header(&octets) } else { octets.len() };
         let at = random.below(most);
         octets[at] = if random.percent(50) { octets[at] ^ 1 << random.below(8) } else { random.octet() };
     }
@@ -167,7 +191,8 @@ fn shorten(octets: &mut Vec<u8>, length: usize) -> Option<()> {
 /// One offset is wrong by a little, or by much.
 fn offset(octets: &mut [u8], part: usize, random: &mut Random) -> Option<()> {
     let change = [1, 2, 8, 0x100, 0xFFFF, random.between(1, 0xFFFF) as u16][random.below(6)];
-    let place = octets.get_mut(part * 4 + 2..part * 4 + 4)?;
+    let at = mark(octets) + part * 4 + 2;
+    let place = octets.get_mut(at..at + 2)?;
     let wrong = u16::from_be_bytes([place[0], place[1]]).wrapping_add(change);
     place.copy_from_slice(&wrong.to_be_bytes());
     Some(())
@@ -176,12 +201,107 @@ fn offset(octets: &mut [u8], part: usize, random: &mut Random) -> Option<()> {
 /// Octets are missing behind the header, or are too many.
 fn table_length(octets: &mut Vec<u8>, random: &mut Random) -> Option<()> {
     let length = octets.len();
-    let by = [1, 4, random.between(1, 900), 4095_usize.saturating_sub(length)][random.below(4)].max(1);
+    let by = [1, 4, random.between(1, 900), LONGEST_FILE.saturating_sub(length)][random.below(4)].max(1);
     match random.percent(50) {
-        true if length >= 16 + by => shorten(octets, length - by),
-        false if length + by <= 4095 => lengthen(octets, length + by),
+        true if length >= header(octets) + by => shorten(octets, length - by),
+        false if length + by <= LONGEST_FILE => lengthen(octets, length + by),
         _ => None,
     }
+}
+
+fn is_second(octets: &[u8]) -> bool {
+    octets.starts_with(&[0xFF, 0xFF])
+}
+
+/// How many octets stand before the first count, and before the first part.
+fn mark(octets: &[u8]) -> usize {
+    if is_second(octets) {
+        4
+    } else {
+        0
+    }
+}
+
+fn header(octets: &[u8]) -> usize {
+    if is_second(octets) {
+        24
+    } else {
+        16
+    }
+}
+
+/// The edition is another than 2; a table of edition 1 may get the mark of one.
+fn edition(octets: &mut Vec<u8>, random: &mut Random) -> Option<()> {
+    octets.get_mut(..2)?.fill(0xFF);
+    let edition = [0, 1, 3, 0x0200, 0xFFFF, random.draw() as u16][random.below(6)];
+    octets.get_mut(2..4)?.copy_from_slice(&edition.to_be_bytes());
+    (edition != 2).then_some(())
+}
+
+/// The header is cut short; what is said of one that ends in the number of the edition is open.
+fn header_length(octets: &mut Vec<u8>, random: &mut Random) -> Option<()> {
+    let length = random.below(header(octets));
+    (!is_second(octets) || length == 0 || length > 3).then(|| shorten(octets, length))?
+}
+
+/// Where an entry of a part starts, if the part has one that fits.
+fn entry(octets: &[u8], part: usize, fits: impl Fn(&[u8]) -> bool, random: &mut Random) -> Option<usize> {
+    const SIZES: [usize; 5] = [8, 6, 4, 4, 17];
+    let number = |at: usize| Some(usize::from(u16::from_be_bytes([*octets.get(at)?, *octets.get(at + 1)?])));
+    let at = mark(octets) + 4 * part;
+    let (count, offset) = (number(at)?, number(at + 2)?);
+    let starts: Vec<usize> = (0..count).map(|index| offset + index * SIZES[part]).collect();
+    random.pick_where(&starts, |&start| octets.get(start..start + SIZES[part]).is_some_and(&fits))
+}
+
+/// Where a name of a table of edition 2 starts.
+fn any_name(octets: &[u8], random: &mut Random) -> Option<usize> {
+    is_second(octets).then(|| entry(octets, 4, |_| true, random))?
+}
+
+/// An operation or error gets an index that no name has.
+fn name_index(octets: &mut [u8], part: usize, random: &mut Random) -> Option<()> {
+    let named = |entry: &[u8]| if part == 0 { entry[7] & 4 != 0 } else { entry[5] & 2 != 0 };
+    let start = is_second(octets).then(|| entry(octets, part, named, random))??;
+    let names = u32::from(u16::from_be_bytes([octets[20], octets[21]]));
+    let index = [names, names + 1, 128, u32::MAX, 1 << 31, random.draw() as u32][random.below(6)].max(names);
+    octets[start..start + 4].copy_from_slice(&index.to_be_bytes());
+    Some(())
+}
+
+/// There are too many names, in a table with few other entries.
+fn name_count(model: &mut Model, random: &mut Random) -> Option<()> {
+    let count = [129, random.between(129, 200)][random.below(2)];
+    let names = model.names.as_mut()?;
+    while names.len() < count {
+        names.push(names::other(random, names));
+    }
+    (model.octets().len() <= LONGEST_FILE).then_some(())
+}
+
+/// A name becomes one that is no object identifier's, in rows too.
+fn name_contents(model: &mut Model, random: &mut Random) -> Option<()> {
+    let old = random.pick(model.names())?;
+    let wrong = loop {
+        let contents = names::no_name(random, &[]);
+        if let Some(name) = code::name(&contents).filter(|name| !model.names().contains(name)) {
+            break name;
+        }
+    };
+    model.names.iter_mut().flatten().filter(|name| **name == old).for_each(|name| *name = wrong);
+    let renamed = |code: Code| if code == Code::Name(old) { Code::Name(wrong) } else { code };
+    model.operations.iter_mut().for_each(|row| row.code = renamed(row.code));
+    model.errors.iter_mut().for_each(|row| row.code = renamed(row.code));
+    Some(())
+}
+
+/// An octet behind a name is not 0.
+fn name_padding(octets: &mut Vec<u8>, random: &mut Random) -> Option<()> {
+    let short = |entry: &[u8]| (1..16).contains(&entry[0]);
+    let start = is_second(octets).then(|| entry(octets, 4, short, random))??;
+    let at = random.between(usize::from(octets[start]) + 1, 16);
+    octets[start + at] = random.octet() | 1;
+    Some(())
 }
 
 /// One part has an entry too many, or a number of them.
@@ -189,9 +309,13 @@ fn count(model: &mut Model, part: usize, random: &mut Random) -> Option<()> {
     let most = Model::MOST[part];
     let mut counts = [(9, 64), (0, 64), (0, 256), (0, 256)].map(|(low, high)| random.between(low, high));
     counts[part] = if random.percent(50) { most + 1 } else { random.between(most + 1, most + 90) };
+    let named = model.names.is_some();
     *model = Model::sized(random, counts);
+    if named {
+        model.renew(random, 1);
+    }
     let counts = [model.operations.len(), model.errors.len(), model.error_pairs.len(), model.child_pairs.len()];
-    (counts[part] > most).then_some(())
+    (counts[part] > most && model.octets().len() <= LONGEST_FILE).then_some(())
 }
 
 fn operation<'a>(model: &'a mut Model, random: &mut Random) -> Option<&'a mut OperationRow> {
@@ -237,8 +361,18 @@ fn over(count: usize, random: &mut Random) -> u16 {
     [count as u16, count as u16 + 1, 64, 256, u16::MAX, random.draw() as u16][random.below(6)].max(count as u16)
 }
 
-fn at_most(code: i32, random: &mut Random) -> i32 {
-    [code, code.saturating_sub(1), i32::MIN, random.number().min(code)][random.below(4)]
+/// A code that is not above another one.
+fn at_most(code: Code, names: &[Name], random: &mut Random) -> Code {
+    match code {
+        Code::Local(code) => {
+            Code::Local([code, code.saturating_sub(1), i32::MIN, random.number().min(code)][random.below(4)])
+        }
+        Code::Name(name) => {
+            let before = names.iter().take_while(|other| **other != name).count();
+            let lower = random.pick(&names[..before]).map_or_else(|| Code::Local(random.number()), Code::Name);
+            [code, lower, Code::Local(random.number())][random.below(3)]
+        }
+    }
 }
 
 fn high_tag(random: &mut Random) -> u8 {

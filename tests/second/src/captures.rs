@@ -6,6 +6,7 @@ use crate::days::{self, Logged, SENT};
 use crate::faults;
 use crate::generate::Generator;
 use crate::model::Model;
+use crate::name_faults;
 use crate::random::Random;
 use crate::slips::SLIPS;
 use crate::state::State;
@@ -78,6 +79,7 @@ fn attempt(seed: u64, sort: usize) -> Drawn {
 /// A fresh end with a small table, mostly, that has all classes.
 fn end<'w>(seed: u64) -> Generator<'w> {
     Generator::of_a_day(seed, |random| match random.percent(50) {
+        true if random.percent(50) => name_faults::rich(random),
         true => faults::rich(random),
         false => Model::random(random),
     })
@@ -85,8 +87,9 @@ fn end<'w>(seed: u64) -> Generator<'w> {
 
 /// A table with an operation that takes long arguments.
 fn large(random: &mut Random) -> Model {
-    let mut model = faults::rich(random);
-    model.operations[1].argument = 0x30;
+    let named = random.percent(50);
+    let mut model = if named { name_faults::rich(random) } else { faults::rich(random) };
+    model.operations[if named { 5 } else { 1 }].argument = 0x30;
     model
 }
 
@@ -97,6 +100,7 @@ fn drawn(name: &'static str, way: Option<&'static str>, end: &mut Generator<'_>)
 fn plain(seed: u64, sort: usize) -> Drawn {
     let mut end = match sort {
         6 | 7 => Generator::of_a_day(seed, large),
+        8 if seed % 16 > 0 => Generator::of_a_day(seed, Model::full_of_names),
         8 => Generator::of_a_day(seed, Model::full),
         _ => end(seed),
     };
@@ -180,8 +184,8 @@ fn wrong_table(seed: u64, sort: usize) -> Drawn {
         4 => [Model::full(&mut random).octets(), vec![0; random.between(1, 3)]].concat(),
         5 => Vec::new(),
         _ => {
-            let model = faults::rich(&mut random);
-            faults::TABLES[random.below(faults::TABLES.len())].1(model, &mut random)
+            let fault = random.below(faults::table_names().len());
+            faults::table(fault, &mut random).1
         }
     };
     Drawn { name, way: Some(way), table, capture }

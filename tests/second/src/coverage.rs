@@ -7,12 +7,13 @@ use crate::frame;
 use crate::generate::{self, Group, Label, Seen};
 use crate::looked_up;
 use crate::model::Model;
+use crate::named;
 use crate::observe::{accepted_kinds, expects, record_limits, rejected_id_is_live, sort, value_limits};
 use crate::oddities::{ARRIVALS, VALUES};
 use crate::placed;
 use crate::rows::Rows;
 
-pub const SEEDS: u64 = 80;
+pub const SEEDS: u64 = 120;
 pub const CALLS: usize = 2000;
 const LEAST: u64 = 50;
 const LEAST_ACCEPTED_PERCENT: u64 = 30;
@@ -125,7 +126,7 @@ const LIMITS: [&str; 52] = [
     "live 0, 0, accepted",
 ];
 
-const PARTS: [&str; 4] = ["operations", "errors", "error pairs", "child pairs"];
+const PARTS: [&str; 5] = ["operations", "errors", "error pairs", "child pairs", "names"];
 
 /// How often each row occurred.
 pub struct Coverage {
@@ -154,6 +155,8 @@ impl Default for Coverage {
         looked_up::rows().into_iter().for_each(|row| coverage.row(row));
         forms::rows().into_iter().for_each(|row| coverage.row(row));
         placed::rows().into_iter().for_each(|row| coverage.row(row));
+        named::rows().into_iter().for_each(|row| coverage.row(row));
+        coverage.row("limit: table of 5144 octets, accepted".to_string());
         for kind in ["an invoke", "an answer", "a reject", "a request", "a forget", "refusal 18", "another refusal"] {
             coverage.row(format!("follow-up: accepted after {kind}"));
         }
@@ -198,6 +201,7 @@ impl Coverage {
         looked_up::rows_of(seen).into_iter().for_each(|row| self.count(row));
         forms::rows_of(call, seen).into_iter().for_each(|row| self.count(row));
         placed::rows_of(call, seen).into_iter().for_each(|row| self.count(row));
+        named::rows_of(call, seen).into_iter().for_each(|row| self.count(row));
         if let Some(label) = seen.label.filter(|label| expects(label.0, seen)) {
             self.count(label_row(label));
         }
@@ -229,12 +233,14 @@ impl Coverage {
         if own.iter().any(|own| peer.iter().any(|peer| peer.id == own.id)) {
             self.count("accepted: same id on both sides".to_string());
         }
-        for (part, most) in (0..4).zip(Model::MOST) {
-            let count = usize::from(u16::from_be_bytes([seen.table[part * 4], seen.table[part * 4 + 1]]));
+        let header = if seen.table.starts_with(&[0xFF]) { &seen.table[4..24] } else { &seen.table[..16] };
+        for ((part, most), entry) in PARTS.iter().zip(Model::MOST).zip(header.chunks_exact(4)) {
+            let count = usize::from(u16::from_be_bytes([entry[0], entry[1]]));
             if count == most || count == most - 1 {
-                self.count(format!("limit: table of {count} {}, accepted", PARTS[part]));
+                self.count(format!("limit: table of {count} {part}, accepted"));
             }
         }
+        self.count(format!("limit: table of {} octets, accepted", seen.table.len()));
     }
 
     /// The table of rows, and whether each occurred often enough.
@@ -250,8 +256,8 @@ impl Coverage {
 
 fn groups() -> Vec<(Group, Vec<&'static str>)> {
     let mut groups = vec![
-        (Group::InvalidTable, faults::TABLES.iter().map(|(name, _)| *name).collect()),
-        (Group::UnsoundState, faults::STATES.iter().map(|(name, _)| *name).collect()),
+        (Group::InvalidTable, faults::table_names()),
+        (Group::UnsoundState, faults::states().into_iter().map(|(name, _)| name).collect()),
         (Group::Damaged, vec!["octets changed, dropped or added", "00 00 dropped, repeated, changed or added"]),
     ];
     let lists = ARRIVALS.iter().chain(VALUES);

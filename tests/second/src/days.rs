@@ -5,6 +5,7 @@ use crate::answer::{Answer, Refusal};
 use crate::apdu::{self, Apdu, Outgoing};
 use crate::capture::{HEADER, OCTETS, PLACE};
 use crate::cases;
+use crate::code::Code;
 use crate::frame::{self, Frame};
 use crate::generate::{free_id, Generator};
 use crate::indefinite;
@@ -131,20 +132,20 @@ impl Generator<'_> {
     /// An answer to an invocation made before, live or over.
     fn late(&mut self) {
         let invokes = self.entries().iter().filter_map(|entry| match apdu::read(&entry.octets) {
-            Ok(Apdu::Invoke(invoke)) if entry.is_request() => Some((invoke.id, invoke.code.local()?)),
+            Ok(Apdu::Invoke(invoke)) if entry.is_request() => Some((invoke.id, invoke.code?)),
             _ => None,
         });
-        let invokes: Vec<(i32, i32)> = invokes.collect();
+        let invokes: Vec<(i32, Code)> = invokes.collect();
         let Some((id, code)) = self.random.pick(&invokes) else { return };
         let Some((_, row)) = self.model.operation(code) else { return };
         let mut octets = vec![0; 2 * State::OCTETS];
         let written = if self.random.percent(60) {
             let value = self.value(row.result_rule());
-            Outgoing::Result { id, code, value: &value }.write(&mut octets)
+            Outgoing::Result { id, code: code.asked(), value: &value }.write(&mut octets)
         } else {
             let (code, rule) = self.error_code(code);
             let value = self.value(rule);
-            Outgoing::Error { id, code, value: &value }.write(&mut octets)
+            Outgoing::Error { id, code: code.asked(), value: &value }.write(&mut octets)
         };
         octets.truncate(written);
         self.arrive(&octets);
@@ -172,13 +173,14 @@ impl Generator<'_> {
         let large = |row: &OperationRow| matches!(row.argument, 0x04 | 0x30 | 0xA0 | 0x80 | 0x24 | 0x31 | 0xC3);
         let Some(row) = self.random.pick_where(&self.model.operations, large) else { return };
         let side = if received { &self.drive.state.peer } else { &self.drive.state.own };
-        let (id, code) = (free_id(&mut self.random, side), row.code);
+        let (id, code) = (free_id(&mut self.random, side), row.code.asked());
         let around = Outgoing::Invoke { id, linked: None, code, value: &[0; 4000] }.octets() - 4000;
         let is_indefinite = octets::is_constructed(row.argument) && self.random.percent(50);
         let mut value = values::sized(octets - around, is_indefinite);
         value[0] = row.argument;
         if !received {
-            self.call(Frame { kind: frame::INVOKE, lent: u16::MAX, id, code, payload: &value, ..Frame::default() });
+            let frame = Frame { kind: frame::INVOKE, lent: u16::MAX, id, ..Frame::default() };
+            self.call(frame.asking(code, &value, &mut Vec::new()));
         } else {
             let mut apdu = vec![0; octets];
             Outgoing::Invoke { id, linked: None, code, value: &value }.write(&mut apdu);
@@ -192,12 +194,15 @@ impl Generator<'_> {
         let asynchronous = |row: &OperationRow| matches!(row.class, 2..=4);
         let Some(row) = self.random.pick_where(&self.model.operations, asynchronous) else { return };
         for number in 0..2 * State::RECORDS as i32 + 4 {
-            let (id, code, value) = (number / 2, row.code, self.value(row.argument_rule()));
+            let (id, code, value) = (number / 2, row.code.asked(), self.value(row.argument_rule()));
             let apdu = Outgoing::Invoke { id, linked: None, code, value: &value };
             let mut octets = vec![0; apdu.octets()];
             apdu.write(&mut octets);
             match number % 2 {
-                0 => self.call(Frame { kind: frame::INVOKE, lent: 99, id, code, payload: &value, ..Frame::default() }),
+                0 => {
+                    let frame = Frame { kind: frame::INVOKE, lent: 99, id, ..Frame::default() };
+                    self.call(frame.asking(code, &value, &mut Vec::new()));
+                }
                 _ => self.arrive(&octets),
             }
         }

@@ -80,7 +80,7 @@ impl Drive {
     }
 
     fn answer<'a>(&mut self, frame: &Frame<'a>) -> Answer<'a> {
-        let Frame { id, code, payload: value, .. } = *frame;
+        let (id, code, value) = (frame.id, frame.asked(), frame.value());
         let output = &mut self.output[..usize::from(frame.lent)];
         let (table, state) = (&self.table[..], &mut self.state);
         let sent = match frame.kind {

@@ -2,7 +2,10 @@
 //! reorders; every call is noted in the book of demand 3 and checked. Both ends are played by this program's engine
 //! or by another program.
 
+use crate::answer::{Answer, Indication};
 use crate::book::{Book, End, ROWS};
+use crate::code::Code;
+use crate::codes;
 use crate::drive::Drive;
 use crate::flawed;
 use crate::flaws::BEHIND;
@@ -20,6 +23,9 @@ use crate::values;
 const LEAST: u64 = 1000;
 const LONG: u64 = 1_000_000;
 
+/// The editions of O and N, association by association.
+const EDITIONS: [[u8; 2]; 6] = [[2, 2], [1, 1], [2, 2], [2, 1], [2, 2], [1, 2]];
+
 /// Runs associations until so many calls are made: the counts, and whether all is as demand 3 says and often enough.
 /// A program, if one is named, plays both ends.
 pub fn run(program: Option<&str>, seed: u64, calls: u64) -> Result<(String, bool), String> {
@@ -27,8 +33,9 @@ pub fn run(program: Option<&str>, seed: u64, calls: u64) -> Result<(String, bool
     let (mut counts, mut made, mut accepted, mut associations) = ([0; ROWS.len()], 0, 0, 0);
     while made < calls {
         associations += 1;
-        let most = random.between(300, 3000) as u64;
-        let mut association = Association::new(&mut random, program)?;
+        let most = random.between(100, 1200) as u64;
+        let editions = EDITIONS[(associations - 1) % EDITIONS.len()];
+        let mut association = Association::new(&mut random, program, editions)?;
         let stop = most.min(calls - made);
         for _ in 0..stop {
             if let Err(wrong) = association.step() {
@@ -65,8 +72,8 @@ struct Association<'r> {
 }
 
 impl<'r> Association<'r> {
-    fn new(random: &'r mut Random, program: Option<&str>) -> Result<Self, String> {
-        let (o, n) = tables(random);
+    fn new(random: &'r mut Random, program: Option<&str>, editions: [u8; 2]) -> Result<Self, String> {
+        let (o, n) = tables(random, editions);
         let [kiosk, controller] = [&o, &n].map(|model| Played::new(player(program)?, &model.octets()));
         let (ends, models) = ([kiosk?, controller?], [o, n]);
         Ok(Association { random, book: Book::default(), ends, models, read: [0; 2], accepted: 0 })
@@ -91,6 +98,9 @@ impl<'r> Association<'r> {
         let o = Table::new(&octets).ok_or("the kiosk's table is not valid")?;
         let noted = self.ends[end as usize].call(&frame).and_then(|line| {
             self.accepted += u64::from(line.answer.is_accepted());
+            if let (End::Kiosk, Some(operation)) = (end, answered(&line.answer)) {
+                count_answer(&mut self.book, &self.models, operation);
+            }
             self.book.note(&o, end, (&frame, &line.answer, line.written))
         });
         noted.map_err(|wrong| {
@@ -138,7 +148,8 @@ impl<'r> Association<'r> {
         let payload = self.value(row.argument_rule());
         let (detail, linked) = parent.map_or((0, 0), |parent| (1, parent.id));
         let lent = self.lent();
-        self.call(end, Frame { kind: frame::INVOKE, detail, lent, id, code: row.code, linked, payload: &payload })
+        let frame = Frame { kind: frame::INVOKE, detail, lent, id, linked, ..Frame::default() };
+        self.call(end, frame.asking(row.code.asked(), &payload, &mut Vec::new()))
     }
 
     /// An id for an invocation: the kiosk's is live, and so refused, or was never accepted.
@@ -179,9 +190,8 @@ impl<'r> Association<'r> {
             let error = pair.map(|pair| model.errors[usize::from(pair.1)]).or(any);
             if let Some(error) = error {
                 let payload = self.value(error.rule());
-                let code = error.code;
-                return self
-                    .call(end, Frame { kind: frame::ERROR, lent, id, code, payload: &payload, ..Frame::default() });
+                let frame = Frame { kind: frame::ERROR, lent, id, ..Frame::default() };
+                return self.call(end, frame.asking(error.code.asked(), &payload, &mut Vec::new()));
             }
         }
         let payload = self.value(row.result_rule());
@@ -233,11 +243,44 @@ impl<'r> Association<'r> {
     }
 }
 
-/// A valid table O, and a valid table N that extends it.
-fn tables(random: &mut Random) -> (Model, Model) {
+/// The operation of a result or error that is indicated.
+fn answered(answer: &Answer<'_>) -> Option<Code> {
+    match *answer {
+        Answer::Indicated(
+            Indication::Result { operation, .. }
+            | Indication::AbsentResult { operation, .. }
+            | Indication::Error { operation, .. },
+        ) => Some(operation),
+        _ => None,
+    }
+}
+
+/// Counts in what O and N differ about an operation whose answer reached the kiosk.
+fn count_answer(book: &mut Book, [o, n]: &[Model; 2], operation: Code) {
+    let row = |model: &Model| model.operation(operation).map(|(_, row)| row.flags & 8 != 0);
+    let place = |model: &Model| codes::place(&operation, model.names());
+    let is_name = matches!(operation, Code::Name(_));
+    book.count_if(is_name && place(o) != place(n), "answers of a name that N numbers otherwise");
+    let only_n = (row(o), row(n)) == (Some(false), Some(true));
+    book.count_if(only_n, "answers of an operation that only N marks idempotent");
+    book.count(match (o.names.is_some(), n.names.is_some()) {
+        (false, false) => "answers, both tables of edition 1",
+        (false, true) => "answers, O of edition 1 and N of edition 2",
+        (true, false) => "answers, O of edition 2 and N of edition 1",
+        (true, true) => "answers, both tables of edition 2",
+    });
+}
+
+/// A valid table O, and a valid table N that extends it, of these editions.
+fn tables(random: &mut Random, editions: [u8; 2]) -> (Model, Model) {
     loop {
         let o = Model::random(random);
         let n = o.extended(random);
+        if [&o, &n].map(|model| if model.names.is_some() { 2 } else { 1 }) != editions
+            || editions == [2, 2] && !o.lists_a_name()
+        {
+            continue;
+        }
         let (old, new) = (o.octets(), n.octets());
         if let (Some(old), Some(new)) = (Table::new(&old), Table::new(&new)) {
             assert!(extends(&new, &old), "the controller's table extends the kiosk's");

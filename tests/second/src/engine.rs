@@ -1,8 +1,10 @@
 //! The six calls: receive, the four requests and forget. A refused call leaves the state as given.
-//! Follows document 01, "Receiving, in order of check" and "Requests, in order of check", with document 02, request Four.
+//! Follows document 01, "Receiving, in order of check" and "Requests, in order of check", with document 02, requests
+//! Four and Five.
 
 use crate::answer::{Indication, Problem, Refusal};
-use crate::apdu::{self, Apdu, Code, Invoke, Outgoing};
+use crate::apdu::{self, Apdu, Invoke, Outgoing};
+use crate::code::{Asked, Code};
 use crate::fault;
 use crate::octets;
 use crate::state::{Side, State};
@@ -27,7 +29,7 @@ fn open<'t>(table: &'t [u8], state: &State) -> Result<Table<'t>, Refusal> {
         return Err(Refusal::UnsoundState);
     }
     let table = Table::new(table).ok_or(Refusal::InvalidTable)?;
-    let knows = |side: &Side| side.live().iter().all(|record| table.operation(record.code).is_some());
+    let knows = |side: &Side| side.live().iter().all(|record| table.has_operation(&record.code));
     if knows(&state.own) && knows(&state.peer) {
         Ok(table)
     } else {
@@ -88,12 +90,12 @@ fn receive_invoke<'a>(table: &Table, state: &mut State, invoke: Invoke<'a>) -> R
     let mut parent = None;
     if let Some(linked) = linked {
         let at = state.own.find(linked).ok_or(Problem::UNRECOGNIZED_LINKED_ID)?;
-        parent = table.operation(state.own.places[at].code);
+        parent = table.operation(&state.own.places[at].code);
         if !parent.is_some_and(|parent| table.has_children(&parent)) {
             return Err(Problem::LINKED_RESPONSE_UNEXPECTED);
         }
     }
-    let operation = code.local().and_then(|code| table.operation(code));
+    let operation = code.and_then(|code| table.operation(&code));
     let operation = operation.ok_or(Problem::UNRECOGNIZED_OPERATION)?;
     if !operation.argument.allows(value) {
         return Err(Problem::MISTYPED_ARGUMENT);
@@ -114,11 +116,11 @@ fn receive_result<'a>(
     table: &Table,
     state: &mut State,
     id: i32,
-    returned: Option<(Code, &'a [u8])>,
+    returned: Option<(Option<Code>, &'a [u8])>,
 ) -> Result<Indication<'a>, Problem> {
     let problems = [Problem::RESULT_UNRECOGNIZED_INVOCATION, Problem::RESULT_RESPONSE_UNEXPECTED];
     let (at, operation) = answered(table, &state.own, id, Operation::has_results, problems)?;
-    if returned.is_some_and(|(code, _)| code != Code::Local(operation.code)) {
+    if returned.is_some_and(|(code, _)| code != Some(operation.code)) {
         return Err(Problem::RESULT_UNRECOGNIZED_INVOCATION);
     }
     let value = returned.map(|(_, value)| value);
@@ -136,12 +138,12 @@ fn receive_error<'a>(
     table: &Table,
     state: &mut State,
     id: i32,
-    code: Code,
+    code: Option<Code>,
     value: Option<&'a [u8]>,
 ) -> Result<Indication<'a>, Problem> {
     let problems = [Problem::ERROR_UNRECOGNIZED_INVOCATION, Problem::ERROR_RESPONSE_UNEXPECTED];
     let (at, operation) = answered(table, &state.own, id, Operation::has_errors, problems)?;
-    let error = code.local().and_then(|code| table.error(code)).ok_or(Problem::UNRECOGNIZED_ERROR)?;
+    let error = code.and_then(|code| table.error(&code)).ok_or(Problem::UNRECOGNIZED_ERROR)?;
     if !table.lists_error(&operation, &error) {
         return Err(Problem::UNEXPECTED_ERROR);
     }
@@ -162,7 +164,7 @@ fn answered<E>(
     [no_record, by_class]: [E; 2],
 ) -> Result<(usize, Operation), E> {
     let at = side.find(id).ok_or(no_record)?;
-    let operation = table.operation(side.places[at].code).filter(allowed).ok_or(by_class)?;
+    let operation = table.operation(&side.places[at].code).filter(allowed).ok_or(by_class)?;
     Ok((at, operation))
 }
 
@@ -180,22 +182,22 @@ fn receive_reject<'a>(state: &mut State, id: Option<i32>, problem: Problem) -> I
 pub fn request_invoke(
     table: &[u8],
     state: &mut State,
-    (id, linked, code): (i32, Option<i32>, i32),
+    (id, linked, code): (i32, Option<i32>, Asked<'_>),
     value: &[u8],
     output: &mut [u8],
 ) -> Sent {
     let table = open(table, state)?;
-    let operation = table.operation(code).ok_or(Refusal::UnknownOperation)?;
+    let operation = code.code().and_then(|code| table.operation(&code)).ok_or(Refusal::UnknownOperation)?;
     if state.own.find(id).is_some() {
         return Err(Refusal::IdInUse);
     }
     let class = |code| table.operation(code).map(|operation| operation.class);
-    if state.own.live().iter().any(|record| class(record.code) == Some(1)) {
+    if state.own.live().iter().any(|record| class(&record.code) == Some(1)) {
         return Err(Refusal::SynchronousInvocationLive);
     }
     if let Some(linked) = linked {
         let at = state.peer.find(linked).ok_or(Refusal::UnknownLinkedId)?;
-        let parent = table.operation(state.peer.places[at].code);
+        let parent = table.operation(&state.peer.places[at].code);
         if !parent.is_some_and(|parent| table.lists_child(&parent, &operation)) {
             return Err(Refusal::NotAChild);
         }
@@ -206,7 +208,7 @@ pub fn request_invoke(
     }
     let written = write(Outgoing::Invoke { id, linked, code, value }, levels, output)?;
     if operation.class != 5 {
-        state.own.add(id, code);
+        state.own.add(id, operation.code);
     }
     Ok(written)
 }
@@ -217,15 +219,22 @@ pub fn request_result(table: &[u8], state: &mut State, id: i32, value: &[u8], ou
     let refusals = [Refusal::NoSuchRecord, Refusal::ClassForbids];
     let (at, operation) = answered(&table, &state.peer, id, Operation::has_results, refusals)?;
     let levels = value_levels(value, operation.result)?;
-    answer(state, at, Outgoing::Result { id, code: operation.code, value }, levels, output)
+    answer(state, at, Outgoing::Result { id, code: operation.code.asked(), value }, levels, output)
 }
 
 /// Answers a peer's invocation with an error.
-pub fn request_error(table: &[u8], state: &mut State, (id, code): (i32, i32), value: &[u8], output: &mut [u8]) -> Sent {
+pub fn request_error(
+    table: &[u8],
+    state: &mut State,
+    (id, code): (i32, Asked<'_>),
+    value: &[u8],
+    output: &mut [u8],
+) -> Sent {
     let table = open(table, state)?;
     let refusals = [Refusal::NoSuchRecord, Refusal::ClassForbids];
     let (at, operation) = answered(&table, &state.peer, id, Operation::has_errors, refusals)?;
-    let error = table.error(code).filter(|error| table.lists_error(&operation, error)).ok_or(Refusal::UnlistedError)?;
+    let error = code.code().and_then(|code| table.error(&code));
+    let error = error.filter(|error| table.lists_error(&operation, error)).ok_or(Refusal::UnlistedError)?;
     let levels = value_levels(value, error.parameter)?;
     answer(state, at, Outgoing::Error { id, code, value }, levels, output)
 }
@@ -248,7 +257,7 @@ pub fn forget(table: &[u8], state: &mut State, invocation: Invocation) -> Result
         Invocation::Peer(id) => (&mut state.peer, id),
     };
     let at = side.find(id).ok_or(Refusal::NoSuchRecord)?;
-    let awaited = table.operation(side.places[at].code).is_some_and(|operation| matches!(operation.class, 1 | 2));
+    let awaited = table.operation(&side.places[at].code).is_some_and(|operation| matches!(operation.class, 1 | 2));
     if awaited && matches!(invocation, Invocation::Peer(_)) {
         return Err(Refusal::ClassForbids);
     }

@@ -1,5 +1,6 @@
 //! The marked examples P1 to P12 of document 01: each call with the whole line that answers it.
 
+use crate::code::Code;
 use crate::frame::{self, Frame};
 use crate::process;
 use crate::show;
@@ -68,8 +69,8 @@ fn state(live: Live) -> State {
     let mut state = State::fresh();
     match live {
         Live::None => {}
-        Live::Own => state.own.add(5, 7),
-        Live::Peer => state.peer.add(5, 7),
+        Live::Own => state.own.add(5, Code::Local(7)),
+        Live::Peer => state.peer.add(5, Code::Local(7)),
     }
     state
 }
@@ -79,7 +80,8 @@ pub fn script() -> Vec<u8> {
     let mut script = Vec::new();
     Frame { kind: frame::TABLE, payload: &T, ..Frame::default() }.append(&mut script);
     for (_, live, call, ..) in EXAMPLES {
-        Frame { kind: frame::STATE, payload: &frame::image(&state(live)), ..Frame::default() }.append(&mut script);
+        let image = frame::local_image(&state(live)).unwrap_or_default();
+        Frame { kind: frame::STATE, payload: &image, ..Frame::default() }.append(&mut script);
         call.append(&mut script);
     }
     script

@@ -2,8 +2,9 @@
 //! Follows docs/TABLES.md, "Whether one table extends another".
 
 use crate::broken;
-use crate::first_fault::{first_fault, RULES};
-use crate::listing::{child_pair_fields, error_fields, error_pair_fields, operation_fields};
+use crate::code::Code;
+use crate::first_fault::{first_fault, LONGEST_FILE, RULES};
+use crate::listing::{child_pair_fields, code_fields, error_fields, error_pair_fields, operation_fields};
 use crate::model::{any_type, Model};
 use crate::random::Random;
 use crate::table::Table;
@@ -43,22 +44,23 @@ fn lacks(old: &Table<'_>, new: &Table<'_>) -> Option<Answer> {
     for ours in old.operations() {
         let code = ours.code;
         let Some(theirs) = new.operations().find(|row| row.code == code) else {
-            return Some(("operation missing", format!("operation code {code} is missing")));
+            return Some(("operation missing", format!("operation {} is missing", code_fields(code))));
         };
         if (ours.class, ours.argument, ours.result) != (theirs.class, theirs.argument, theirs.result) {
             let (old, new) = (operation_fields(&ours), operation_fields(&theirs));
-            let lines = format!("operation code {code} differs\n  old: {old}\n  new: {new}");
+            let lines = format!("operation {} differs\n  old: {old}\n  new: {new}", code_fields(code));
             return Some(("operation differs", lines));
         }
     }
     for ours in old.errors() {
         let code = ours.code;
         let Some(theirs) = new.errors().find(|row| row.code == code) else {
-            return Some(("error missing", format!("error code {code} is missing")));
+            return Some(("error missing", format!("error {} is missing", code_fields(code))));
         };
         if ours.parameter != theirs.parameter {
             let (old, new) = (error_fields(&ours), error_fields(&theirs));
-            return Some(("error differs", format!("error code {code} differs\n  old: {old}\n  new: {new}")));
+            let lines = format!("error {} differs\n  old: {old}\n  new: {new}", code_fields(code));
+            return Some(("error differs", lines));
         }
     }
     let (ours, theirs) = (error_pairs(old), error_pairs(new));
@@ -70,16 +72,16 @@ fn lacks(old: &Table<'_>, new: &Table<'_>) -> Option<Answer> {
     Some(("child pair missing", format!("child pair {} is missing", child_pair_fields(a, b))))
 }
 
-fn codes(table: &Table<'_>) -> Vec<i32> {
+fn codes(table: &Table<'_>) -> Vec<Code> {
     table.operations().map(|row| row.code).collect()
 }
 
-fn error_pairs(table: &Table<'_>) -> Vec<(i32, i32)> {
+fn error_pairs(table: &Table<'_>) -> Vec<(Code, Code)> {
     let (operations, errors) = (codes(table), table.errors().map(|row| row.code).collect::<Vec<_>>());
     table.error_pairs().map(|(a, b)| (operations[a], errors[b])).collect()
 }
 
-fn child_pairs(table: &Table<'_>) -> Vec<(i32, i32)> {
+fn child_pairs(table: &Table<'_>) -> Vec<(Code, Code)> {
     let operations = codes(table);
     table.child_pairs().map(|(a, b)| (operations[a], operations[b])).collect()
 }
@@ -104,9 +106,9 @@ pub fn asked(meant: usize, random: &mut Random) -> (Vec<u8>, Vec<u8>) {
     }
 }
 
-/// A file over 4,095 octets is cut: what is said of one beside another table is open.
+/// A file that is too long is cut: what is said of one beside another table is open.
 fn within(mut octets: Vec<u8>) -> Vec<u8> {
-    octets.truncate(4095);
+    octets.truncate(LONGEST_FILE);
     octets
 }
 

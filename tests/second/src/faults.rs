@@ -1,22 +1,26 @@
-//! Tables that break one rule each and states that are not sound, by name.
+//! Tables that break one rule each and states that are not sound, by name; those about names are in `name_faults`.
 //! Follows document 01, "Operation table" and "Records".
 
+use crate::code::Code;
 use crate::model::{ErrorRow, Model, OperationRow};
+use crate::name_faults;
 use crate::random::Random;
 use crate::state::{Record, Side, State};
+use crate::table::Table;
 
 /// A table of all classes with pairs of both sorts, for a fault to break.
 pub fn rich(random: &mut Random) -> Model {
     let mut model = Model::default();
     let mut code = random.number() >> 1;
     for class in [1, 2, 3, 4, 5, 2] {
-        let mut row = OperationRow { code, class, argument: 0x02, result: 0x04, flags: random.octet() & 3 };
+        let mut row =
+            OperationRow { code: Code::Local(code), class, argument: 0x02, result: 0x04, flags: random.octet() & 3 };
         Model::settle(&mut row);
         model.operations.push(row);
         code += 1 + random.below(9) as i32;
     }
     for parameter in [0x00, 0x04, 0x30] {
-        model.errors.push(ErrorRow { code, parameter, optional: 0 });
+        model.errors.push(ErrorRow { code: Code::Local(code), parameter, optional: 0 });
         code += 1 + random.below(9) as i32;
     }
     model.error_pairs = vec![(0, 0), (0, 2), (1, 1), (2, 0), (5, 2)];
@@ -24,7 +28,34 @@ pub fn rich(random: &mut Random) -> Model {
     model
 }
 
-type TableFault = fn(Model, &mut Random) -> Vec<u8>;
+pub(crate) type TableFault = fn(Model, &mut Random) -> Vec<u8>;
+
+/// An invalid table: what is wrong with it, and its octets.
+pub fn table(fault: usize, random: &mut Random) -> (&'static str, Vec<u8>, Model) {
+    if let Some((name, make)) = name_faults::TABLES.get(fault) {
+        let model = name_faults::rich(random);
+        return (name, make(model.clone(), random), model);
+    }
+    let (name, make) = TABLES[fault - name_faults::TABLES.len()];
+    // What is wrong in edition 1 may be right in edition 2.
+    let named = name_faults::rich(random);
+    let octets = make(named.clone(), random);
+    if random.percent(50) && Table::new(&octets).is_none() {
+        return (name, octets, named);
+    }
+    let model = rich(random);
+    (name, make(model.clone(), random), model)
+}
+
+/// The names of the invalid tables.
+pub fn table_names() -> Vec<&'static str> {
+    name_faults::TABLES.iter().chain(TABLES).map(|(name, _)| *name).collect()
+}
+
+/// The ways to make a state unsound.
+pub fn states() -> Vec<(&'static str, StateFault)> {
+    STATES.iter().chain(name_faults::STATES).copied().collect()
+}
 
 /// Each gives a table that is not valid.
 pub const TABLES: &[(&str, TableFault)] = &[
@@ -57,15 +88,15 @@ pub const TABLES: &[(&str, TableFault)] = &[
     }),
     ("operation codes rising unsigned only", |model, _| {
         rows(model, |model| {
-            model.operations[4].code = i32::MAX;
-            model.operations[5].code = i32::MIN;
+            model.operations[4].code = Code::Local(i32::MAX);
+            model.operations[5].code = Code::Local(i32::MIN);
         })
     }),
     ("error codes equal", |model, _| rows(model, |model| model.errors[1].code = model.errors[0].code)),
     ("error codes falling", |model, _| rows(model, |model| model.errors.swap(0, 1))),
     ("error codes rising unsigned only", |model, _| {
         rows(model, |model| {
-            (model.errors[1].code, model.errors[2].code) = (i32::MAX, -1);
+            (model.errors[1].code, model.errors[2].code) = (Code::Local(i32::MAX), Code::Local(-1));
         })
     }),
     ("class 0", |model, random| rows(model, |model| model.operations[random.below(6)].class = 0)),
@@ -126,19 +157,19 @@ pub const TABLES: &[(&str, TableFault)] = &[
     ("child pair of a class 5 parent", |model, _| rows(model, |model| model.child_pairs[3].0 = 4)),
 ];
 
-fn rows(mut model: Model, change: impl FnOnce(&mut Model)) -> Vec<u8> {
+pub(crate) fn rows(mut model: Model, change: impl FnOnce(&mut Model)) -> Vec<u8> {
     change(&mut model);
     model.octets()
 }
 
-fn octets(model: Model, change: impl FnOnce(&mut Vec<u8>)) -> Vec<u8> {
+pub(crate) fn octets(model: Model, change: impl FnOnce(&mut Vec<u8>)) -> Vec<u8> {
     let mut octets = model.octets();
     change(&mut octets);
     octets
 }
 
 /// One offset is wrong by a little, or by much.
-fn offset(model: Model, at: usize, random: &mut Random) -> Vec<u8> {
+pub(crate) fn offset(model: Model, at: usize, random: &mut Random) -> Vec<u8> {
     let change = [1, 2, 8, 0x100, 0xFFFF][random.below(5)];
     octets(model, |octets| {
         let wrong = u16::from_be_bytes([octets[at], octets[at + 1]]).wrapping_add(change);
@@ -151,17 +182,14 @@ fn grown(random: &mut Random, part: usize) -> Vec<u8> {
     let mut model = Model::full(random);
     match part {
         0 => {
-            model.operations.iter_mut().for_each(|row| row.code >>= 1);
-            model.operations.dedup_by_key(|row| row.code);
-            while model.operations.len() <= Model::MOST[0] {
-                let last = model.operations[model.operations.len() - 1];
-                model.operations.push(OperationRow { code: last.code + 1, ..last });
-            }
+            let last = model.operations[0];
+            model.operations = (0..65).map(|code| OperationRow { code: Code::Local(code), ..last }).collect();
             model.error_pairs.clear();
             model.child_pairs.clear();
         }
         1 => {
-            model.errors = (0..65).map(|code| ErrorRow { code, parameter: 0, optional: 0 }).collect();
+            model.errors =
+                (0..65).map(|code| ErrorRow { code: Code::Local(code), parameter: 0, optional: 0 }).collect();
         }
         2 => add_between(&mut model.error_pairs, 64),
         _ => add_between(&mut model.child_pairs, 64),
@@ -180,23 +208,29 @@ fn add_between(pairs: &mut Vec<(u16, u16)>, seconds: u16) {
     }
 }
 
-type StateFault = fn(&mut State, &mut Random);
+pub(crate) type StateFault = fn(&mut State, &mut Random);
 
 /// Each makes a sound state unsound.
-pub const STATES: &[(&str, StateFault)] = &[
+const STATES: &[(&str, StateFault)] = &[
     ("own count 33", |state, _| state.own.count = 33),
     ("peer count 33", |state, _| state.peer.count = 33),
     ("own count over 33", |state, random| state.own.count = random.between(34, 65_535) as u16),
     ("peer count over 33", |state, random| state.peer.count = random.between(34, 65_535) as u16),
     ("own id repeated", |state, random| repeat(&mut state.own, random)),
     ("peer id repeated", |state, random| repeat(&mut state.peer, random)),
-    ("id behind the own count", |state, random| behind(&mut state.own, random, Record { id: 1, code: 0 })),
-    ("code behind the own count", |state, random| behind(&mut state.own, random, Record { id: 0, code: 1 })),
-    ("id behind the peer count", |state, random| behind(&mut state.peer, random, Record { id: -1, code: 0 })),
-    ("code behind the peer count", |state, random| behind(&mut state.peer, random, Record { id: 0, code: -1 })),
+    ("id behind the own count", |state, random| behind(&mut state.own, random, Record { id: 1, code: Code::Local(0) })),
+    ("code behind the own count", |state, random| {
+        behind(&mut state.own, random, Record { id: 0, code: Code::Local(1) })
+    }),
+    ("id behind the peer count", |state, random| {
+        behind(&mut state.peer, random, Record { id: -1, code: Code::Local(0) })
+    }),
+    ("code behind the peer count", |state, random| {
+        behind(&mut state.peer, random, Record { id: 0, code: Code::Local(-1) })
+    }),
     ("own count too small", |state, _| {
         while state.own.count < 2 {
-            state.own.add(i32::from(state.own.count) + 70, 1);
+            state.own.add(i32::from(state.own.count) + 70, Code::Local(1));
         }
         state.own.count -= 1;
     }),
@@ -213,7 +247,7 @@ fn repeat(side: &mut Side, random: &mut Random) {
     side.places[second].id = side.places[first].id;
 }
 
-fn behind(side: &mut Side, random: &mut Random, rubbish: Record) {
+pub(crate) fn behind(side: &mut Side, random: &mut Random, rubbish: Record) {
     side.count = side.count.min(31);
     let count = usize::from(side.count);
     side.places[count..].fill(Record::default());

@@ -1,7 +1,7 @@
 //! The fields of an APDU, taken one after another and each checked when it is taken, so that one walk is enough.
-//! Follows document 01, "The four APDUs", with document 02, request Three.
+//! Follows document 01, "The four APDUs", with document 02, requests Three and Five.
 
-use crate::apdu::Code;
+use crate::code::Code;
 use crate::octets::{self, Element, Header, Length, CLOSING};
 
 const ID: u8 = 0x02;
@@ -80,11 +80,12 @@ impl<'a> Fields<'a> {
         octets::integer(self.take_if(ID)?.contents())
     }
 
-    pub fn code(&mut self) -> Option<Code> {
+    /// A code; none inside for one that no table can have.
+    pub fn code(&mut self) -> Option<Option<Code>> {
         let field = self.take()?;
         match field.identifier() {
-            0x02 => Some(octets::integer(field.contents()).map_or(Code::Foreign, Code::Local)),
-            0x06 => Some(Code::Foreign),
+            0x02 => Some(octets::integer(field.contents()).map(Code::Local)),
+            0x06 => Some(Code::named(field.contents())),
             _ => None,
         }
     }

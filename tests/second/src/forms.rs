@@ -80,7 +80,7 @@ pub fn rows() -> Vec<String> {
 
 /// The rows that a call belongs to.
 pub fn rows_of(call: &str, seen: &Seen<'_>) -> Vec<String> {
-    let (octets, answer) = (seen.frame.payload, answered(seen.answer));
+    let (octets, answer) = (seen.frame.value(), answered(seen.answer));
     let mut elements = Vec::new();
     place(octets, 1, None, &mut elements);
     let rows = match seen.frame.kind {

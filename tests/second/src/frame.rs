@@ -1,5 +1,6 @@
-//! Frames of a script and the state image: the input of the drive protocol.
+//! Frames of a script and the state images: the input of the drive protocol, with those of its stage 5.
 
+use crate::code::{Asked, Code, NAME_OCTETS};
 use crate::state::{Record, Side, State};
 
 pub const TABLE: u8 = 0;
@@ -11,6 +12,10 @@ pub const ERROR: u8 = 5;
 pub const REJECT: u8 = 6;
 pub const FORGET: u8 = 7;
 
+/// Of an invoke's detail: whether a linked id is given. Of an invoke's and an error's: whether the code is a name.
+pub const LINKED: u8 = 1;
+pub const NAMED: u8 = 2;
+
 /// How many octets stand before the payload.
 pub const HEADER: usize = 18;
 
@@ -18,7 +23,7 @@ pub const HEADER: usize = 18;
 #[derive(Clone, Copy, Debug, Default)]
 pub struct Frame<'a> {
     pub kind: u8,
-    /// Whether a linked id is given, the problem of a user reject, or the side of a forget.
+    /// What is given of an invoke and an error, the problem of a user reject, or the side of a forget.
     pub detail: u8,
     pub lent: u16,
     pub id: i32,
@@ -57,7 +62,49 @@ impl<'a> Frame<'a> {
     }
 
     pub fn linked_id(&self) -> Option<i32> {
-        (self.detail == 1).then_some(self.linked)
+        (self.detail & LINKED != 0).then_some(self.linked)
+    }
+
+    fn is_named(&self) -> bool {
+        matches!(self.kind, INVOKE | ERROR) && self.detail & NAMED != 0
+    }
+
+    /// How many octets of the payload stand before the value: a name's length octet and its contents.
+    fn name_octets(&self) -> usize {
+        match self.payload {
+            [length, name @ ..] if self.is_named() => 1 + name.len().min(usize::from(*length)),
+            _ => 0,
+        }
+    }
+
+    /// The code of an invoke or an error.
+    pub fn asked(&self) -> Asked<'a> {
+        match self.is_named() {
+            true => Asked::Name(self.payload.get(1..self.name_octets()).unwrap_or_default()),
+            false => Asked::Local(self.code),
+        }
+    }
+
+    /// The value, or the octets received.
+    pub fn value(&self) -> &'a [u8] {
+        &self.payload[self.name_octets()..]
+    }
+
+    /// The frame with this code and value; a name and the value behind it are put into `room`.
+    pub fn asking<'b>(self, code: Asked<'_>, value: &'b [u8], room: &'b mut Vec<u8>) -> Frame<'b>
+    where
+        'a: 'b,
+    {
+        match code {
+            Asked::Local(code) => Frame { code, payload: value, ..self },
+            Asked::Name(name) => {
+                room.clear();
+                room.push(u8::try_from(name.len()).expect("a name's length is one octet"));
+                room.extend(name);
+                room.extend(value);
+                Frame { detail: self.detail | NAMED, payload: room, ..self }
+            }
+        }
     }
 
     /// Appends the frame to a script; a payload holds at most 65,535 octets.
@@ -73,35 +120,70 @@ impl<'a> Frame<'a> {
     }
 }
 
-const SIDE_OCTETS: usize = 2 + 8 * State::RECORDS;
-pub const IMAGE_OCTETS: usize = 2 * SIDE_OCTETS;
+/// How many octets a place takes: id and local code, or id, name length and 16 octets.
+const LOCAL_PLACE: usize = 8;
+const PLACE: usize = 5 + NAME_OCTETS;
+
+/// How many octets the image of a state without names may have, and that of any state.
+pub const LOCAL_IMAGE_OCTETS: usize = 2 * (2 + LOCAL_PLACE * State::RECORDS);
+pub const IMAGE_OCTETS: usize = 2 * (2 + PLACE * State::RECORDS);
 
 /// The state of an image, sound or not, unless its length is another.
 pub fn read_image(image: &[u8]) -> Option<State> {
-    let (own, peer) = image.split_at_checked(SIDE_OCTETS)?;
-    (peer.len() == SIDE_OCTETS).then(|| State { own: read_side(own), peer: read_side(peer) })
+    let (place, read): (usize, fn(&[u8]) -> Code) = match image.len() {
+        LOCAL_IMAGE_OCTETS => (LOCAL_PLACE, |code| Code::Local(number(code))),
+        IMAGE_OCTETS => (PLACE, read_code),
+        _ => return None,
+    };
+    let (own, peer) = image.split_at(image.len() / 2);
+    Some(State { own: read_side(own, place, read), peer: read_side(peer, place, read) })
 }
 
-fn read_side(octets: &[u8]) -> Side {
+fn read_side(octets: &[u8], size: usize, code: fn(&[u8]) -> Code) -> Side {
     let mut side = Side::empty();
     side.count = u16::from_be_bytes([octets[0], octets[1]]);
-    for (place, entry) in side.places.iter_mut().zip(octets[2..].chunks_exact(8)) {
-        *place = Record { id: number(entry), code: number(&entry[4..]) };
+    for (place, entry) in side.places.iter_mut().zip(octets[2..].chunks_exact(size)) {
+        *place = Record { id: number(entry), code: code(&entry[4..]) };
     }
     side
 }
 
-/// The image of a state.
+/// A name with its length, or with length 0 a local code.
+fn read_code(octets: &[u8]) -> Code {
+    match octets {
+        [0, code @ ..] => Code::Local(number(code)),
+        _ => Code::Name(std::array::from_fn(|at| octets[at])),
+    }
+}
+
+/// The image of a state that can hold names.
 pub fn image(state: &State) -> Vec<u8> {
     let mut image = Vec::with_capacity(IMAGE_OCTETS);
     for side in [&state.own, &state.peer] {
         image.extend(side.count.to_be_bytes());
         for place in &side.places {
             image.extend(place.id.to_be_bytes());
-            image.extend(place.code.to_be_bytes());
+            match place.code {
+                Code::Local(code) => image.extend([&[0], &code.to_be_bytes()[..], &[0; 12]].concat()),
+                Code::Name(name) => image.extend(name),
+            }
         }
     }
     image
+}
+
+/// The image of a state without names in any place; none if there is one.
+pub fn local_image(state: &State) -> Option<Vec<u8>> {
+    let mut image = Vec::with_capacity(LOCAL_IMAGE_OCTETS);
+    for side in [&state.own, &state.peer] {
+        image.extend(side.count.to_be_bytes());
+        for place in &side.places {
+            let Code::Local(code) = place.code else { return None };
+            image.extend(place.id.to_be_bytes());
+            image.extend(code.to_be_bytes());
+        }
+    }
+    Some(image)
 }
 
 fn number(octets: &[u8]) -> i32 {

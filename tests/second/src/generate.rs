@@ -1,7 +1,9 @@
 //! Scripts from a seed: episodes of calls that fit the state reached, with faults, limits and damage among them.
-//! The calls themselves are made in `requests`, `arrivals`, `lookups`, `limits`, `oddities` and `flawed_calls`.
+//! The calls themselves are made in `requests`, `arrivals`, `lookups`, `named_calls`, `limits`, `oddities` and
+//! `flawed_calls`.
 
 use crate::answer::Answer;
+use crate::code::Code;
 use crate::days::{self, Logged};
 use crate::drive::{Drive, Step};
 use crate::flawed::Flaw;
@@ -114,15 +116,17 @@ impl<'w> Generator<'w> {
 
     fn run(mut self) -> Vec<u8> {
         while self.left > 0 {
-            match self.random.below(138) {
-                0..=6 => self.invalid_table(),
-                7..=9 => self.unsound_state(),
-                10..=34 => self.limit(),
-                35..=69 => self.named_arrival(),
-                70..=88 => self.named_value(),
-                89..=91 => self.lookups(),
-                92..=99 => self.episode(),
-                100..=134 => self.flawed_call(),
+            match self.random.below(209) {
+                0..=11 => self.invalid_table(),
+                12..=17 => self.unsound_state(),
+                18..=21 => self.lacking_table(),
+                22..=65 => self.limit(),
+                66..=106 => self.named_arrival(),
+                107..=128 => self.named_value(),
+                129..=136 => self.lookups(),
+                137..=142 => self.named_calls(),
+                143..=151 => self.episode(),
+                152..=203 => self.flawed_call(),
                 _ => self.flawed_requests(),
             }
         }
@@ -165,7 +169,8 @@ impl<'w> Generator<'w> {
     }
 
     pub(crate) fn set_state(&mut self, state: &State) {
-        self.set(frame::STATE, &frame::image(state));
+        let local = frame::local_image(state).filter(|_| self.random.percent(50));
+        self.set(frame::STATE, &local.unwrap_or_else(|| frame::image(state)));
     }
 
     /// Whether to do the next thing wrong.
@@ -192,7 +197,10 @@ impl<'w> Generator<'w> {
                 }
             }
             1 => self.set_state(&State::fresh()),
-            2 => self.set(frame::STATE, &[0xFF; 515]),
+            2 => {
+                let length = [0, 515, 517, 674, 1347, 1349][self.random.below(6)];
+                self.set(frame::STATE, &vec![0xFF; length]);
+            }
             _ => {
                 let model = self.random_model();
                 self.set_model(model);
@@ -255,7 +263,7 @@ pub(crate) fn fill(
     random: &mut Random,
     side: &mut Side,
     count: usize,
-    mut code: impl FnMut(&mut Random) -> Option<i32>,
+    mut code: impl FnMut(&mut Random) -> Option<Code>,
 ) {
     while usize::from(side.count) < count {
         let Some(code) = code(random) else { return };

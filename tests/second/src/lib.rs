@@ -1,10 +1,11 @@
-//! Remote operations of X.219, X.229 and X.880 as fixed in document 01 and, up to request Four, document 02: the engine
+//! Remote operations of X.219, X.229 and X.880 as fixed in document 01 and, up to request Five, document 02: the engine
 //! of one end of an association (`engine`), a script player (`drive`), a script generator (`generate`) and checks that
 //! run on them.
 
 pub mod answer;
 pub mod apdu;
 pub mod capture;
+pub mod code;
 pub mod drive;
 pub mod engine;
 pub mod fault;
@@ -44,6 +45,10 @@ pub mod listing;
 pub mod looked_up;
 mod lookups;
 pub mod model;
+mod name_faults;
+mod named;
+mod named_calls;
+pub mod names;
 mod observe;
 mod oddities;
 pub mod placed;

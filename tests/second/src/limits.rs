@@ -1,9 +1,11 @@
 //! The generator's calls at, just below and just above each limit of document 01.
 
 use crate::apdu::Outgoing;
+use crate::code::Code;
 use crate::frame::{self, Frame};
 use crate::generate::{fill, free_id, side, Generator};
 use crate::model::{ErrorRow, Model, OperationRow};
+use crate::names::{self, Wanted};
 use crate::random::Random;
 use crate::state::State;
 use crate::values::{self, constructed, element, integer_contents};
@@ -14,6 +16,25 @@ enum Place {
     Invoke,
     Result,
     Error,
+}
+
+/// What a plain table and state hold: the id of both records, and the codes.
+#[derive(Clone, Copy)]
+struct Plain {
+    id: i32,
+    code: Code,
+    silent: Code,
+    error: Code,
+}
+
+impl Plain {
+    /// The code that an APDU has.
+    fn code_in(&self, place: Place) -> Code {
+        match place {
+            Place::Error => self.error,
+            _ => self.code,
+        }
+    }
 }
 
 impl Generator<'_> {
@@ -27,25 +48,30 @@ impl Generator<'_> {
     }
 
     /// A table with one operation of class 2, one of class 5 and one error, all values of one type, 0 for none, and optional;
-    /// a state with one record of the first on each side. Gives id, operation code and error code.
-    fn set_plain(&mut self, kind: u8) -> (i32, i32, i32) {
-        let code = self.random.number() >> 1;
+    /// a state with one record of the first on each side. The codes are local, or names.
+    fn set_plain(&mut self, kind: u8) -> Plain {
+        let number = self.random.number() >> 1;
+        let names = self.random.percent(45).then(|| names::different(&mut self.random, 3));
+        let [code, silent, error] = match &names {
+            Some(names) => [names[0], names[1], names[self.random.below(3)]].map(Code::Name),
+            None => [number, number + 1, self.random.number()].map(Code::Local),
+        };
         let optional = u8::from(kind != 0);
         let row = OperationRow { code, class: 2, argument: kind, result: kind, flags: 3 * optional };
-        let silent = OperationRow { code: code + 1, class: 5, argument: kind, result: 0, flags: optional };
-        let error = ErrorRow { code: self.random.number(), parameter: kind, optional };
+        let last = OperationRow { code: silent, class: 5, argument: kind, result: 0, flags: optional };
         self.set_model(Model {
-            operations: vec![row, silent],
-            errors: vec![error],
+            operations: vec![row, last],
+            errors: vec![ErrorRow { code: error, parameter: kind, optional }],
             error_pairs: vec![(0, 0)],
             child_pairs: vec![(0, 0), (0, 1)],
+            names,
         });
         let id = self.random.number();
         let mut state = State::fresh();
         state.own.add(id, code);
         state.peer.add(id, code);
         self.set_state(&state);
-        (id, code, error.code)
+        Plain { id, code, silent, error }
     }
 
     fn place(&mut self) -> Place {
@@ -69,11 +95,11 @@ impl Generator<'_> {
 
     /// Received octets and levels: one below, at and above the limit.
     fn received_value_limit(&mut self) {
-        let (id, code, error) = self.set_plain(0x30);
+        let plain = self.set_plain(0x30);
         let place = self.place();
-        let id = if place == Place::Invoke { free_id(&mut self.random, &self.drive.state.peer) } else { id };
-        let framing = self.framing();
-        let wrap = |value: &[u8]| wrapped(place, framing, id, if place == Place::Error { error } else { code }, value);
+        let id = if place == Place::Invoke { free_id(&mut self.random, &self.drive.state.peer) } else { plain.id };
+        let (framing, code) = (self.framing(), Wanted::from(plain.code_in(place)).element(&mut self.random));
+        let wrap = |value: &[u8]| wrapped(place, framing, id, &code, value);
         let apdu = if self.random.percent(50) {
             let around = wrap(&vec![0; 4000]).len() - 4000;
             let octets = self.random.between(4095, 4097) - around;
@@ -90,11 +116,11 @@ impl Generator<'_> {
     /// Receives a value, mostly of the right type, in an Invoke, a Result or an Error that is right otherwise.
     pub(crate) fn receive_value(&mut self, value: &[u8]) {
         let kind = if self.random.percent(8) { 0xC3 } else { type_of(value) };
-        let (id, code, error) = self.set_plain(kind);
+        let plain = self.set_plain(kind);
         let place = self.place();
-        let id = if place == Place::Invoke { free_id(&mut self.random, &self.drive.state.peer) } else { id };
-        let framing = self.framing();
-        let payload = wrapped(place, framing, id, if place == Place::Error { error } else { code }, value);
+        let id = if place == Place::Invoke { free_id(&mut self.random, &self.drive.state.peer) } else { plain.id };
+        let (framing, code) = (self.framing(), Wanted::from(plain.code_in(place)).element(&mut self.random));
+        let payload = wrapped(place, framing, id, &code, value);
         self.call(Frame { kind: frame::RECEIVE, lent: 11, payload: &payload, ..Frame::default() });
     }
 
@@ -109,13 +135,13 @@ impl Generator<'_> {
         let plain = self.set_plain(kind);
         let place = self.place();
         if is_full {
-            self.fill_own(plain.1);
+            self.fill_own(plain.code);
         }
         self.send(place, plain, |_, _| value.to_vec());
     }
 
     /// As many own records as there can be, all of one operation.
-    fn fill_own(&mut self, code: i32) {
+    fn fill_own(&mut self, code: Code) {
         let mut state = self.drive.state.clone();
         fill(&mut self.random, &mut state.own, State::RECORDS, |_| Some(code));
         self.set_state(&state);
@@ -126,7 +152,7 @@ impl Generator<'_> {
         let plain = self.set_plain(0x30);
         let place = self.place();
         if place == Place::Invoke && self.random.percent(15) {
-            self.fill_own(plain.1);
+            self.fill_own(plain.code);
         }
         let around_levels = if place == Place::Result { 2 } else { 1 };
         let forms = self.forms();
@@ -139,34 +165,32 @@ impl Generator<'_> {
     }
 
     /// A request with the value made for so many octets around it.
-    fn send(
-        &mut self,
-        place: Place,
-        (own, code, error): (i32, i32, i32),
-        value: impl FnOnce(&mut Random, usize) -> Vec<u8>,
-    ) {
-        let id = if place == Place::Invoke { free_id(&mut self.random, &self.drive.state.own) } else { own };
-        let linked = (place == Place::Invoke && self.random.percent(30)).then_some(own);
+    fn send(&mut self, place: Place, plain: Plain, value: impl FnOnce(&mut Random, usize) -> Vec<u8>) {
+        let id = if place == Place::Invoke { free_id(&mut self.random, &self.drive.state.own) } else { plain.id };
+        let linked = (place == Place::Invoke && self.random.percent(30)).then_some(plain.id);
+        let code = plain.code_in(place);
+        let code = code.asked();
         let outgoing = |value| match place {
             Place::Invoke => Outgoing::Invoke { id, linked, code, value },
             Place::Result => Outgoing::Result { id, code, value },
-            Place::Error => Outgoing::Error { id, code: error, value },
+            Place::Error => Outgoing::Error { id, code, value },
         };
         let value = value(&mut self.random, outgoing(&[0; 4000]).octets() - 4000);
         let needed = outgoing(&value).octets();
         let lent = [needed, needed, needed + 1, needed - 1, needed + 40][self.random.below(5)] as u16;
-        let (kind, code) = match place {
-            Place::Invoke => (frame::INVOKE, code),
-            Place::Result => (frame::RESULT, 0),
-            Place::Error => (frame::ERROR, error),
-        };
         let detail = u8::from(linked.is_some());
-        self.call(Frame { kind, detail, lent, id, code, linked: linked.unwrap_or(0), payload: &value });
+        let frame = Frame { detail, lent, id, linked: linked.unwrap_or(0), ..Frame::default() };
+        let mut room = Vec::new();
+        self.call(match place {
+            Place::Invoke => Frame { kind: frame::INVOKE, ..frame }.asking(code, &value, &mut room),
+            Place::Result => Frame { kind: frame::RESULT, payload: &value, ..frame },
+            Place::Error => Frame { kind: frame::ERROR, ..frame }.asking(code, &value, &mut room),
+        });
     }
 
     /// 31 and 32 records on a side, then a new invocation of class 2 or 5, then one record less.
     fn record_limit(&mut self) {
-        let (_, code, _) = self.set_plain(0x30);
+        let Plain { code, silent, .. } = self.set_plain(0x30);
         let own = self.random.percent(50);
         let mut state = State::fresh();
         let filled = if own { &mut state.own } else { &mut state.peer };
@@ -175,14 +199,16 @@ impl Generator<'_> {
         let retired = filled.places[self.random.below(count)].id;
         self.set_state(&state);
         for _ in 0..self.random.between(1, 3) {
-            let code = code + i32::from(self.random.percent(30));
+            let code = if self.random.percent(30) { silent } else { code };
             let id = free_id(&mut self.random, side(&self.drive.state, own));
             let short = self.random.percent(10);
             if own {
                 let lent = if short { 3 } else { 40 };
-                self.call(Frame { kind: frame::INVOKE, lent, id, code, ..Frame::default() });
+                let frame = Frame { kind: frame::INVOKE, lent, id, ..Frame::default() };
+                self.call(frame.asking(code.asked(), &[], &mut Vec::new()));
             } else {
-                let payload = wrapped(Place::Invoke, self.framing(), id, code, &[]);
+                let code = Wanted::from(code).element(&mut self.random);
+                let payload = wrapped(Place::Invoke, self.framing(), id, &code, &[]);
                 self.call(Frame { kind: frame::RECEIVE, lent: 11, payload: &payload, ..Frame::default() });
             }
         }
@@ -197,7 +223,7 @@ impl Generator<'_> {
     /// Full tables, and tables with one entry less in one part; one entry more is an invalid table.
     fn table_limit(&mut self) {
         let mut model = Model::full(&mut self.random);
-        match self.random.below(6) {
+        match self.random.below(8) {
             0 => {
                 model.operations.pop();
                 let kept = model.operations.len() as u16;
@@ -211,6 +237,7 @@ impl Generator<'_> {
             }
             2 => drop(model.error_pairs.remove(self.random.below(256))),
             3 => drop(model.child_pairs.remove(self.random.below(256))),
+            4..=5 => model.drop_a_name(&mut self.random),
             _ => {}
         }
         self.set_model(model);
@@ -223,15 +250,15 @@ impl Generator<'_> {
 }
 
 /// An APDU with shortest or indefinite lengths around a value, or none if it is empty.
-fn wrapped(place: Place, [outer, inner]: [bool; 2], id: i32, code: i32, value: &[u8]) -> Vec<u8> {
-    let [id, code] = [id, code].map(|number| element(0x02, &integer_contents(number)));
+fn wrapped(place: Place, [outer, inner]: [bool; 2], id: i32, code: &[u8], value: &[u8]) -> Vec<u8> {
+    let id = element(0x02, &integer_contents(id));
     match place {
-        Place::Invoke => constructed(0xA1, &[&id, &code, value].concat(), outer),
+        Place::Invoke => constructed(0xA1, &[&id, code, value].concat(), outer),
         Place::Result => {
-            let returned = constructed(0x30, &[&code, value].concat(), inner);
+            let returned = constructed(0x30, &[code, value].concat(), inner);
             constructed(0xA2, &[id, returned].concat(), outer)
         }
-        Place::Error => constructed(0xA3, &[&id, &code, value].concat(), outer),
+        Place::Error => constructed(0xA3, &[&id, code, value].concat(), outer),
     }
 }
 

@@ -1,7 +1,8 @@
 //! The line of a call, written and read.
-//! Follows the drive protocol, "Line", with the field of its stage 4.
+//! Follows the drive protocol, "Line", with the field of its stage 4 and the names of its stage 5.
 
 use crate::answer::{Answer, Indication, Problem, Refusal};
+use crate::code::Code;
 use crate::state::{Record, Side, State};
 
 /// What a line shows of a call.
@@ -91,12 +92,12 @@ fn put_indication(line: &mut Vec<u8>, indication: Indication<'_>) {
         Indication::Invoke { id, linked, code, value } => {
             put_kind(line, "invoke", Some(id));
             put_number(line, linked);
-            put_number(line, Some(code));
+            put_code(line, " ", code);
             put_value(line, value);
         }
         Indication::Result { id, code, value, operation } => {
             put_kind(line, "result", Some(id));
-            put_number(line, Some(code));
+            put_code(line, " ", code);
             put_value(line, Some(value));
             put_operation(line, operation);
         }
@@ -107,7 +108,7 @@ fn put_indication(line: &mut Vec<u8>, indication: Indication<'_>) {
         }
         Indication::Error { id, code, value, operation } => {
             put_kind(line, "error", Some(id));
-            put_number(line, Some(code));
+            put_code(line, " ", code);
             put_value(line, value);
             put_operation(line, operation);
         }
@@ -159,9 +160,20 @@ fn put_octets(line: &mut Vec<u8>, octets: Option<&[u8]>, none: &str) {
     }
 }
 
-fn put_operation(line: &mut Vec<u8>, operation: i32) {
-    put(line, " op");
-    put_number(line, Some(operation));
+fn put_operation(line: &mut Vec<u8>, operation: Code) {
+    put_code(line, " op ", operation);
+}
+
+/// A local code, or the length and the octets of a name behind the letter n.
+fn put_code(line: &mut Vec<u8>, before: &str, code: Code) {
+    put(line, before);
+    match code {
+        Code::Local(code) => put_hex(line, &code.to_be_bytes()),
+        Code::Name(name) => {
+            put(line, "n");
+            put_hex(line, &name);
+        }
+    }
 }
 
 fn put_problem(line: &mut Vec<u8>, problem: Problem) {
@@ -176,8 +188,7 @@ fn put_side(line: &mut Vec<u8>, side: &Side) {
     put_hex(line, &side.count.to_be_bytes());
     for place in side.shown() {
         put_number(line, Some(place.id));
-        line.push(b':');
-        put_hex(line, &place.code.to_be_bytes());
+        put_code(line, ":", place.code);
     }
 }
 
@@ -205,23 +216,23 @@ fn read_indication<'a>(words: &[&str], room: &'a mut Vec<u8>) -> Option<Indicati
         ["invoke", id, linked, code, value] => Indication::Invoke {
             id: read_number(id)?,
             linked: read_unless_none(linked, read_number)?,
-            code: read_number(code)?,
+            code: read_code(code)?,
             value: read_value(value, room)?,
         },
         ["result", id, "none", "none", "op", operation] => {
-            Indication::AbsentResult { id: read_number(id)?, operation: read_number(operation)? }
+            Indication::AbsentResult { id: read_number(id)?, operation: read_code(operation)? }
         }
         ["result", id, code, value, "op", operation] => Indication::Result {
             id: read_number(id)?,
-            code: read_number(code)?,
+            code: read_code(code)?,
             value: read_value(value, room)??,
-            operation: read_number(operation)?,
+            operation: read_code(operation)?,
         },
         ["error", id, code, value, "op", operation] => Indication::Error {
             id: read_number(id)?,
-            code: read_number(code)?,
+            code: read_code(code)?,
             value: read_value(value, room)?,
-            operation: read_number(operation)?,
+            operation: read_code(operation)?,
         },
         ["reject-u", id, kind @ ("81" | "82" | "83"), number] => {
             Indication::UserReject { id: read_number(id)?, problem: read_problem(kind, number)? }
@@ -257,6 +268,13 @@ fn read_number(word: &str) -> Option<i32> {
     u32::from_str_radix(word, 16).ok().map(u32::cast_signed)
 }
 
+fn read_code(word: &str) -> Option<Code> {
+    match word.strip_prefix('n') {
+        Some(digits) => read_octets(digits)?.try_into().ok().map(Code::Name),
+        None => read_number(word).map(Code::Local),
+    }
+}
+
 /// At least one octet.
 fn read_octets(word: &str) -> Option<Vec<u8>> {
     let digits: Option<Vec<u8>> = word.chars().map(|digit| digit.to_digit(16).map(|digit| digit as u8)).collect();
@@ -271,7 +289,7 @@ fn read_side(text: &str) -> Option<Side> {
     side.count = u16::from_str_radix(words.next()?, 16).ok()?;
     for (at, word) in words.enumerate() {
         let (id, code) = word.split_once(':')?;
-        *side.places.get_mut(at)? = Record { id: read_number(id)?, code: read_number(code)? };
+        *side.places.get_mut(at)? = Record { id: read_number(id)?, code: read_code(code)? };
     }
     Some(side)
 }

@@ -1,9 +1,11 @@
 //! The generator's lookups: codes at every sort of place in lists of every sort of length.
 
+use crate::code::Code;
 use crate::codes;
 use crate::frame::{self, Frame};
 use crate::generate::{fill, free_id, side, Generator};
 use crate::model::Model;
+use crate::names::Wanted;
 use crate::state::{Record, State};
 use crate::table::Rule;
 
@@ -53,13 +55,14 @@ impl Generator<'_> {
 
     /// An operation's code, in a request or received.
     fn look_up_operation(&mut self, own: bool) {
-        let codes: Vec<i32> = self.model.operations.iter().map(|row| row.code).collect();
-        let code = codes::asked(&codes, &mut self.random);
+        let codes: Vec<Code> = self.model.operations.iter().map(|row| row.code).collect();
+        let code = codes::asked(&codes, self.model.names(), &mut self.random);
         let row = self.model.operation(code).map(|(_, row)| row).or(self.random.pick(&self.model.operations));
         let value = self.value(row.map_or(Rule { kind: 0, optional: false }, |row| row.argument_rule()));
         let id = free_id(&mut self.random, side(&self.drive.state, own));
         if own {
-            self.call(Frame { kind: frame::INVOKE, lent: LENT, id, code, payload: &value, ..Frame::default() });
+            let frame = Frame { kind: frame::INVOKE, lent: LENT, id, ..Frame::default() };
+            self.call(frame.asking(code.asked(), &value, &mut Vec::new()));
         } else {
             self.receive_code(0xA1, id, code, value);
         }
@@ -67,21 +70,23 @@ impl Generator<'_> {
 
     /// An error's code, in an answer to a peer's record or in one received for an own record.
     fn look_up_error(&mut self, own: bool, Record { id, .. }: Record) {
-        let codes: Vec<i32> = self.model.errors.iter().map(|row| row.code).collect();
-        let code = codes::asked(&codes, &mut self.random);
+        let codes: Vec<Code> = self.model.errors.iter().map(|row| row.code).collect();
+        let code = codes::asked(&codes, self.model.names(), &mut self.random);
         let listed = self.model.errors.iter().copied().find(|row| row.code == code);
         let row = listed.or(self.random.pick(&self.model.errors));
         let value = self.value(row.map_or(Rule { kind: 0, optional: false }, |row| row.rule()));
         if own {
             self.receive_code(0xA3, id, code, value);
         } else {
-            self.call(Frame { kind: frame::ERROR, lent: LENT, id, code, payload: &value, ..Frame::default() });
+            let frame = Frame { kind: frame::ERROR, lent: LENT, id, ..Frame::default() };
+            self.call(frame.asking(code.asked(), &value, &mut Vec::new()));
         }
     }
 
     /// Receives an Invoke or an Error with this code.
-    fn receive_code(&mut self, kind: u8, id: i32, code: i32, value: Vec<u8>) {
-        let fields = vec![self.number(0x02, |_| id), self.number(0x02, |_| code), value];
+    fn receive_code(&mut self, kind: u8, id: i32, code: Code, value: Vec<u8>) {
+        let code = Wanted::from(code).element(&mut self.random);
+        let fields = vec![self.number(0x02, |_| id), code, value];
         let payload = self.apdu(kind, fields);
         self.call(Frame { kind: frame::RECEIVE, lent: 11, payload: &payload, ..Frame::default() });
     }

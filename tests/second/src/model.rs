@@ -1,18 +1,21 @@
 //! A table to be changed and written out: random ones, full ones, and tables that extend another.
-//! Follows document 01, "Operation table".
+//! Follows document 01, "Operation table", with document 02, request Five.
 
 use std::collections::BTreeSet;
 
+use crate::code::{Code, Name};
 use crate::codes;
+use crate::names;
 use crate::random::Random;
 use crate::table::{Rule, Table};
 
 #[derive(Clone, Copy, Debug, PartialEq, Eq)]
 pub struct OperationRow {
-    pub code: i32,
+    pub code: Code,
     pub class: u8,
     pub argument: u8,
     pub result: u8,
+    /// All but the one that says that the code is a name.
     pub flags: u8,
 }
 
@@ -28,7 +31,7 @@ impl OperationRow {
 
 #[derive(Clone, Copy, Debug, PartialEq, Eq)]
 pub struct ErrorRow {
-    pub code: i32,
+    pub code: Code,
     pub parameter: u8,
     pub optional: u8,
 }
@@ -39,14 +42,21 @@ impl ErrorRow {
     }
 }
 
-/// The four parts of a table; nothing keeps them valid.
+/// The parts of a table; nothing keeps them valid.
 #[derive(Clone, Debug, Default, PartialEq, Eq)]
 pub struct Model {
     pub operations: Vec<OperationRow>,
     pub errors: Vec<ErrorRow>,
     pub error_pairs: Vec<(u16, u16)>,
     pub child_pairs: Vec<(u16, u16)>,
+    /// None in edition 1.
+    pub names: Option<Vec<Name>>,
 }
+
+/// The flags for an idempotent operation, an operation with a name and an error with a name.
+const IDEMPOTENT: u8 = 8;
+const OPERATION_NAMED: u8 = 4;
+const ERROR_NAMED: u8 = 2;
 
 /// Types of values, the usual ones more often; of 10 and 2A no value is well-formed.
 const TYPES: [u8; 24] = [
@@ -55,42 +65,77 @@ const TYPES: [u8; 24] = [
 ];
 
 impl Model {
-    pub const MOST: [usize; 4] = [64, 64, 256, 256];
+    pub const MOST: [usize; 5] = [64, 64, 256, 256, 128];
+
+    /// The names, none of them in edition 1.
+    pub fn names(&self) -> &[Name] {
+        self.names.as_deref().unwrap_or_default()
+    }
 
     /// The table octets, parts end to end.
     pub fn octets(&self) -> Vec<u8> {
-        let counts = [self.operations.len(), self.errors.len(), self.error_pairs.len(), self.child_pairs.len()];
-        let mut octets = Vec::with_capacity(16 + 8 * counts[0] + 6 * counts[1] + 4 * (counts[2] + counts[3]));
-        let mut offset = 16;
-        for (count, size) in counts.into_iter().zip([8, 6, 4, 4]) {
-            octets.extend((count as u16).to_be_bytes());
-            octets.extend((offset as u16).to_be_bytes());
-            offset += count * size;
-        }
+        let mut octets = self.header();
         for row in &self.operations {
-            octets.extend(row.code.to_be_bytes());
-            octets.extend([row.class, row.argument, row.result, row.flags]);
+            let (number, named) = self.numbered(&row.code);
+            octets.extend(number.to_be_bytes());
+            octets.extend([row.class, row.argument, row.result, row.flags | named * OPERATION_NAMED]);
         }
         for row in &self.errors {
-            octets.extend(row.code.to_be_bytes());
-            octets.extend([row.parameter, row.optional]);
+            let (number, named) = self.numbered(&row.code);
+            octets.extend(number.to_be_bytes());
+            octets.extend([row.parameter, row.optional | named * ERROR_NAMED]);
         }
         for (first, second) in self.error_pairs.iter().chain(&self.child_pairs) {
             octets.extend(first.to_be_bytes());
             octets.extend(second.to_be_bytes());
         }
+        octets.extend(self.names().as_flattened());
         octets
+    }
+
+    /// Counts and offsets, behind its mark in edition 2.
+    fn header(&self) -> Vec<u8> {
+        let [operations, errors] = [self.operations.len(), self.errors.len()];
+        let counts = [operations, errors, self.error_pairs.len(), self.child_pairs.len(), self.names().len()];
+        let (mark, parts): (&[u8], usize) = if self.names.is_some() { (&[0xFF, 0xFF, 0, 2], 5) } else { (&[], 4) };
+        let (mut header, mut offset) = (mark.to_vec(), mark.len() + 4 * parts);
+        for (count, size) in counts.into_iter().zip([8, 6, 4, 4, 17]).take(parts) {
+            header.extend((count as u16).to_be_bytes());
+            header.extend((offset as u16).to_be_bytes());
+            offset += count * size;
+        }
+        header
+    }
+
+    /// A code's number in a row, and 1 if it is the index of a name; one that is not among the names has none.
+    fn numbered(&self, code: &Code) -> (i32, u8) {
+        match code {
+            Code::Local(code) => (*code, 0),
+            Code::Name(name) => (self.names().iter().position(|other| other == name).map_or(-1, |at| at as i32), 1),
+        }
     }
 
     pub fn is_valid(&self) -> bool {
         Table::new(&self.octets()).is_some()
     }
 
-    /// A valid table, mostly small, now and then a full one.
+    /// A valid table of either edition, mostly small, now and then a full one.
     pub fn random(random: &mut Random) -> Model {
-        let most = match random.below(100) {
-            0..=1 => return Model::full(random),
-            2..=11 => random.between(16, 48),
+        if random.percent(2) {
+            return Model::full(random);
+        }
+        let mut model = Model::of_edition_1(random);
+        if random.percent(55) {
+            let more = [0, 0, 1, 3, random.below(30)][random.below(5)];
+            model.renew(random, more);
+        }
+        model
+    }
+
+    /// A valid table of edition 1, mostly small.
+    pub(crate) fn of_edition_1(random: &mut Random) -> Model {
+        let most = match random.below(10) {
+            0 => random.between(16, 48),
             _ => random.between(2, 12),
         };
         let (operations, errors) = (random.between(1, most), random.between(0, most));
@@ -105,9 +150,54 @@ impl Model {
         model
     }
 
-    /// A valid table with every part as long as allowed.
+    /// A valid table of either edition with every part as long as allowed.
     pub fn full(random: &mut Random) -> Model {
-        Model::sized(random, Self::MOST)
+        match random.percent(50) {
+            true => Model::full_of_names(random),
+            false => Model::sized(random, [64, 64, 256, 256]),
+        }
+    }
+
+    /// A valid table of edition 2 with every part as long as allowed.
+    pub fn full_of_names(random: &mut Random) -> Model {
+        let mut model = Model::sized(random, [64, 64, 256, 256]);
+        model.renew(random, Self::MOST[4]);
+        model
+    }
+
+    /// Makes it a table of edition 2: some of the last operations and errors get names, so that their order is kept,
+    /// some operations are idempotent, and up to so many names are used by nothing.
+    pub(crate) fn renew(&mut self, random: &mut Random, more: usize) {
+        let mut named = |rows: usize| [0, rows, random.below(rows + 1), rows - rows.min(1)][random.below(4)];
+        let counts = [named(self.operations.len()), named(self.errors.len())];
+        self.give_names(random, counts, more);
+    }
+
+    /// Gives names to so many of the last operations and errors.
+    fn give_names(&mut self, random: &mut Random, [operations, errors]: [usize; 2], more: usize) {
+        let total = (operations.max(errors) + more).min(Self::MOST[4]);
+        let names = names::different(random, total);
+        let rows = self.operations.iter_mut().rev().zip(some_of(random, names.clone(), operations).into_iter().rev());
+        rows.for_each(|(row, name)| row.code = Code::Name(name));
+        let rows = self.errors.iter_mut().rev().zip(some_of(random, names.clone(), errors).into_iter().rev());
+        rows.for_each(|(row, name)| row.code = Code::Name(name));
+        self.names = Some(names);
+        self.mark_idempotent(random, 40);
+    }
+
+    /// Drops a name that nothing has, if there is one.
+    pub fn drop_a_name(&mut self, random: &mut Random) {
+        let codes = self.operations.iter().map(|row| row.code).chain(self.errors.iter().map(|row| row.code));
+        let codes: Vec<Code> = codes.collect();
+        let unused = random.pick_where(self.names(), |name| !codes.contains(&Code::Name(*name)));
+        if let (Some(names), Some(unused)) = (&mut self.names, unused) {
+            names.retain(|name| *name != unused);
+        }
+    }
+
+    /// Changes whether operations are idempotent, so many times in a hundred.
+    fn mark_idempotent(&mut self, random: &mut Random, times: usize) {
+        self.operations.iter_mut().filter(|_| random.percent(times)).for_each(|row| row.flags ^= IDEMPOTENT);
     }
 
     /// Parts of these lengths, at least nine operations; fewer pairs where there are not so many.
@@ -123,9 +213,9 @@ impl Model {
         model
     }
 
-    /// A valid table with any types, now and then without some of its parts.
+    /// A valid table of either edition with any types, now and then without some of its parts.
     pub fn varied(random: &mut Random) -> Model {
-        let mut model = Model::random(random);
+        let mut model = Model::of_edition_1(random);
         let bare = random.below(16);
         if random.percent(60) {
             model.operations.iter_mut().for_each(|row| vary(row, random));
@@ -134,9 +224,13 @@ impl Model {
                 row.optional = u8::from(row.parameter != 0) & random.octet();
             }
         }
+        if random.percent(55) {
+            let more = [0, 0, 1, 3, random.below(12)][random.below(5)];
+            model.renew(random, more);
+        }
         match bare {
-            0 => return Model { errors: model.errors, ..Model::default() },
-            1 => return Model { operations: model.operations, ..Model::default() },
+            0 => return Model { errors: model.errors, names: model.names, ..Model::default() },
+            1 => return Model { operations: model.operations, names: model.names, ..Model::default() },
             2 => model.error_pairs.clear(),
             3 => model.child_pairs.clear(),
             _ => {}
@@ -148,6 +242,14 @@ impl Model {
     pub fn searched(random: &mut Random) -> Model {
         let lengths = [0; 2].map(|_| codes::length(random));
         let mut model = Model::lists(random, lengths, codes::spread);
+        if random.percent(50) {
+            let most = lengths[0].max(lengths[1]);
+            let more = [3, most, most, 64][random.below(4)];
+            match random.percent(70) {
+                true => model.give_names(random, lengths, more),
+                false => model.renew(random, more),
+            }
+        }
         let mut answered = BTreeSet::new();
         for _ in 0..model.operations.len().min(3) {
             let at = random.below(model.operations.len());
@@ -162,25 +264,28 @@ impl Model {
 
     /// Operations and errors with random rules, and no pairs.
     fn lists(random: &mut Random, lengths: [usize; 2], codes: fn(&mut Random, usize) -> Vec<i32>) -> Model {
-        let operations = codes(random, lengths[0]).into_iter().map(|code| random_operation(random, code)).collect();
-        let errors = codes(random, lengths[1]).into_iter().map(|code| random_error(random, code)).collect();
+        let mut codes = |length| codes(random, length).into_iter().map(Code::Local).collect();
+        let (operations, errors): (Vec<Code>, Vec<Code>) = (codes(lengths[0]), codes(lengths[1]));
+        let operations = operations.into_iter().map(|code| random_operation(random, code)).collect();
+        let errors = errors.into_iter().map(|code| random_error(random, code)).collect();
         Model { operations, errors, ..Model::default() }
     }
 
     /// A table that extends this one, with more of everything; not valid if a part is then too long.
     pub fn extended(&self, random: &mut Random) -> Model {
         let mut model = self.clone();
+        model.renumber(random);
         for _ in 0..random.between(1, 4) {
-            let (operation, error) = (random.number(), random.number());
-            if !model.operations.iter().any(|row| row.code == operation) {
-                model.operations.push(random_operation(random, operation));
+            let operations: Vec<Code> = model.operations.iter().map(|row| row.code).collect();
+            let errors: Vec<Code> = model.errors.iter().map(|row| row.code).collect();
+            if let Some(code) = model.code_unless(&operations, random) {
+                model.operations.push(random_operation(random, code));
             }
-            if !model.errors.iter().any(|row| row.code == error) {
-                model.errors.push(random_error(random, error));
+            if let Some(code) = model.code_unless(&errors, random) {
+                model.errors.push(random_error(random, code));
             }
         }
-        model.operations.sort_by_key(|row| row.code);
-        model.errors.sort_by_key(|row| row.code);
+        model.sort();
         let moved = |old: u16| place(&model.operations, self.operations[usize::from(old)].code, |row| row.code);
         let moved_error = |old: u16| place(&model.errors, self.errors[usize::from(old)].code, |row| row.code);
         let kept_errors: BTreeSet<_> = self.error_pairs.iter().map(|&(a, b)| (moved(a), moved_error(b))).collect();
@@ -191,6 +296,52 @@ impl Model {
         model.child_pairs = model.allowed_child_pairs();
         model.child_pairs.retain(|pair| kept_children.contains(pair) || random.percent(more_children));
         model
+    }
+
+    /// Gives it any edition that its codes allow; one of edition 2 gets its names in another order, some that nothing
+    /// uses go, and others come, and other operations are idempotent.
+    fn renumber(&mut self, random: &mut Random) {
+        let codes = self.operations.iter().map(|row| row.code).chain(self.errors.iter().map(|row| row.code));
+        let used: Vec<Code> = codes.filter(|code| matches!(code, Code::Name(_))).collect();
+        if used.is_empty() && random.percent(60) {
+            self.names = None;
+            self.operations.iter_mut().for_each(|row| row.flags &= !IDEMPOTENT);
+            return;
+        }
+        let mut names = self.names.take().unwrap_or_default();
+        names.retain(|name| used.contains(&Code::Name(*name)) || random.percent(70));
+        for _ in 0..random.below(7) {
+            names.push(names::other(random, &names));
+        }
+        for at in 1..names.len() {
+            names.swap(at, random.below(at + 1));
+        }
+        self.names = Some(names);
+        self.mark_idempotent(random, 30);
+    }
+
+    /// A number or one of the names, if it is not among these codes.
+    fn code_unless(&self, codes: &[Code], random: &mut Random) -> Option<Code> {
+        let name = random.pick_where(self.names(), |name| !codes.contains(&Code::Name(*name)));
+        let name = name.map(Code::Name).filter(|_| random.percent(50));
+        name.or_else(|| Some(Code::Local(random.number())).filter(|code| !codes.contains(code)))
+    }
+
+    /// Puts rows in the order of a table.
+    fn sort(&mut self) {
+        let order = |model: &Model, code: &Code| {
+            let (number, named) = model.numbered(code);
+            (named, number)
+        };
+        let (mut operations, mut errors) = (self.operations.clone(), self.errors.clone());
+        operations.sort_by_key(|row| order(self, &row.code));
+        errors.sort_by_key(|row| order(self, &row.code));
+        (self.operations, self.errors) = (operations, errors);
+    }
+
+    /// Whether an error with a name is listed for an operation.
+    pub fn lists_a_name(&self) -> bool {
+        self.error_pairs.iter().any(|pair| matches!(self.errors[usize::from(pair.1)].code, Code::Name(_)))
     }
 
     /// Every pair of an operation that may have errors with an error.
@@ -208,25 +359,26 @@ impl Model {
         if matches!(row.class, 3 | 5) {
             row.result = 0;
         }
-        row.flags &= u8::from(row.argument != 0) | (2 * u8::from(row.result != 0));
+        row.flags &= IDEMPOTENT | u8::from(row.argument != 0) | (2 * u8::from(row.result != 0));
     }
 
-    pub fn operation(&self, code: i32) -> Option<(usize, OperationRow)> {
+    pub fn operation(&self, code: Code) -> Option<(usize, OperationRow)> {
         let index = self.operations.iter().position(|row| row.code == code)?;
         Some((index, self.operations[index]))
     }
 
-    pub fn class(&self, code: i32) -> Option<u8> {
+    pub fn class(&self, code: Code) -> Option<u8> {
         self.operation(code).map(|(_, row)| row.class)
     }
 }
 
-/// Whether N extends O, both valid: every operation, error and pair of O, read by codes, is in N.
+/// Whether N extends O, both valid: every operation, error and pair of O, read by code or name, is in N; whether an
+/// operation is idempotent does not count.
 pub fn extends(n: &Table<'_>, o: &Table<'_>) -> bool {
     let same = |o: crate::table::Operation| {
-        n.operation(o.code).filter(|n| (n.class, n.argument, n.result) == (o.class, o.argument, o.result))
+        n.operation(&o.code).filter(|n| (n.class, n.argument, n.result) == (o.class, o.argument, o.result))
     };
-    let same_error = |o: crate::table::ErrorEntry| n.error(o.code).filter(|n| n.parameter == o.parameter);
+    let same_error = |o: crate::table::ErrorEntry| n.error(&o.code).filter(|n| n.parameter == o.parameter);
     let operations: Option<Vec<_>> = o.operations().map(same).collect();
     let errors: Option<Vec<_>> = o.errors().map(same_error).collect();
     let (Some(operations), Some(errors)) = (operations, errors) else { return false };
@@ -234,7 +386,7 @@ pub fn extends(n: &Table<'_>, o: &Table<'_>) -> bool {
         && o.child_pairs().all(|(a, b)| n.lists_child(&operations[a], &operations[b]))
 }
 
-fn random_operation(random: &mut Random, code: i32) -> OperationRow {
+fn random_operation(random: &mut Random, code: Code) -> OperationRow {
     let class = [1, 2, 2, 2, 2, 3, 3, 4, 4, 5][random.below(10)];
     let [argument, result] = [0; 2].map(|_| TYPES[random.below(TYPES.len())]);
     let mut row = OperationRow { code, class, argument, result, flags: random.octet() & 3 };
@@ -242,7 +394,7 @@ fn random_operation(random: &mut Random, code: i32) -> OperationRow {
     row
 }
 
-fn random_error(random: &mut Random, code: i32) -> ErrorRow {
+fn random_error(random: &mut Random, code: Code) -> ErrorRow {
     let parameter = TYPES[random.below(TYPES.len())];
     let optional = if parameter == 0 { 0 } else { random.octet() & 1 };
     ErrorRow { code, parameter, optional }
@@ -250,7 +402,8 @@ fn random_error(random: &mut Random, code: i32) -> ErrorRow {
 
 /// Gives an operation other types and flags.
 fn vary(row: &mut OperationRow, random: &mut Random) {
-    (row.argument, row.result, row.flags) = (any_type(random), any_type(random), random.octet() & 3);
+    (row.argument, row.result) = (any_type(random), any_type(random));
+    row.flags = row.flags & IDEMPOTENT | random.octet() & 3;
     Model::settle(row);
 }
 
@@ -288,6 +441,6 @@ fn some_of<T>(random: &mut Random, mut items: Vec<T>, count: usize) -> Vec<T> {
     items
 }
 
-fn place<T>(rows: &[T], code: i32, code_of: impl Fn(&T) -> i32) -> u16 {
+fn place<T>(rows: &[T], code: Code, code_of: impl Fn(&T) -> Code) -> u16 {
     rows.iter().position(|row| code_of(row) == code).map_or(u16::MAX, |index| index as u16)
 }

@@ -2,6 +2,7 @@
 
 use crate::answer::{Answer, Indication, Problem, Refusal};
 use crate::apdu::Outgoing;
+use crate::code::Code;
 use crate::frame::{self, Frame};
 use crate::generate::{Group, Seen};
 use crate::octets;
@@ -61,13 +62,13 @@ pub fn rejected_id_is_live(seen: &Seen<'_>) -> bool {
 
 /// The accepted kinds a call belongs to.
 pub fn accepted_kinds(seen: &Seen<'_>, answer: &Answer<'_>) -> Vec<&'static str> {
-    let Frame { kind, detail, payload, .. } = *seen.frame;
+    let (Frame { kind, detail, .. }, payload) = (*seen.frame, seen.frame.value());
     let either = |test, yes, no| if test { yes } else { no };
     match *answer {
         Answer::Indicated(Indication::Invoke { linked, code, value, .. }) => {
             let mut kinds = vec![either(value.is_some(), "invoke with value", "invoke without value")];
             kinds.extend(linked.map(|_| "linked invoke"));
-            kinds.extend((class(seen, code) == 5).then_some("class 5 invoke"));
+            kinds.extend((class(seen, Some(code)) == 5).then_some("class 5 invoke"));
             kinds
         }
         Answer::Indicated(Indication::Result { .. }) => vec!["result"],
@@ -85,8 +86,8 @@ pub fn accepted_kinds(seen: &Seen<'_>, answer: &Answer<'_>) -> Vec<&'static str>
         }],
         Answer::Sent { .. } if kind == frame::INVOKE => {
             let mut kinds = vec![either(payload.is_empty(), "sent invoke without value", "sent invoke with value")];
-            kinds.extend((detail == 1).then_some("sent linked invoke"));
-            kinds.extend((class(seen, seen.frame.code) == 5).then_some("sent class 5 invoke"));
+            kinds.extend(seen.frame.linked_id().map(|_| "sent linked invoke"));
+            kinds.extend((class(seen, seen.frame.asked().code()) == 5).then_some("sent class 5 invoke"));
             kinds
         }
         Answer::Sent { .. } if kind == frame::RESULT => {
@@ -100,8 +101,9 @@ pub fn accepted_kinds(seen: &Seen<'_>, answer: &Answer<'_>) -> Vec<&'static str>
     }
 }
 
-fn class(seen: &Seen<'_>, code: i32) -> u8 {
-    Table::new(seen.table).and_then(|table| table.operation(code)).map_or(0, |operation| operation.class)
+fn class(seen: &Seen<'_>, code: Option<Code>) -> u8 {
+    let operation = Table::new(seen.table).zip(code).and_then(|(table, code)| table.operation(&code));
+    operation.map_or(0, |operation| operation.class)
 }
 
 /// Limits of records and of tables that lack a record's code.
@@ -109,13 +111,15 @@ pub fn record_limits(seen: &Seen<'_>) -> Vec<&'static str> {
     let State { own, peer } = seen.before;
     let mut limits = Vec::new();
     match *seen.answer {
-        Answer::Sent { .. } if seen.frame.kind == frame::INVOKE => match (own.count, class(seen, seen.frame.code)) {
-            (32, 5) => limits.push("32 own records, class 5 sent"),
-            (31, 1..=4) => limits.push("31 own records, sent"),
-            _ => {}
-        },
+        Answer::Sent { .. } if seen.frame.kind == frame::INVOKE => {
+            match (own.count, class(seen, seen.frame.asked().code())) {
+                (32, 5) => limits.push("32 own records, class 5 sent"),
+                (31, 1..=4) => limits.push("31 own records, sent"),
+                _ => {}
+            }
+        }
         Answer::Refused(Refusal::OwnRecordsFull) => limits.push("32 own records, refused 14"),
-        Answer::Indicated(Indication::Invoke { code, .. }) => match (peer.count, class(seen, code)) {
+        Answer::Indicated(Indication::Invoke { code, .. }) => match (peer.count, class(seen, Some(code))) {
             (32, 5) => limits.push("32 peer records, class 5 accepted"),
             (31, 1..=4) => limits.push("31 peer records, accepted"),
             _ => {}
@@ -125,7 +129,7 @@ pub fn record_limits(seen: &Seen<'_>) -> Vec<&'static str> {
         }
         Answer::Refused(Refusal::InvalidTable) => {
             if let Some(table) = Table::new(seen.table) {
-                let lacks = |record: &Record| table.operation(record.code).is_none();
+                let lacks = |record: &Record| table.operation(&record.code).is_none();
                 limits.extend(own.live().iter().any(lacks).then_some("table lacks an own record's code"));
                 limits.extend(peer.live().iter().any(lacks).then_some("table lacks a peer record's code"));
             }
@@ -161,7 +165,7 @@ pub fn value_limits(call: &str, seen: &Seen<'_>) -> Vec<String> {
         }
         answer => answered(answer),
     };
-    let (value, lent) = (seen.frame.payload, usize::from(seen.frame.lent));
+    let (value, lent) = (seen.frame.value(), usize::from(seen.frame.lent));
     let value_levels = levels(value);
     let limit = |text: String| format!("{text}, {answer}");
     if seen.frame.kind == frame::RECEIVE {
@@ -189,13 +193,13 @@ fn levels(octets: &[u8]) -> Option<usize> {
 }
 
 /// The APDU that a request asks for.
-pub fn outgoing<'a>(seen: &Seen<'a>) -> Option<Outgoing<'a>> {
-    let Frame { kind, detail, id, code, payload: value, .. } = *seen.frame;
+pub fn outgoing<'a>(seen: &'a Seen<'_>) -> Option<Outgoing<'a>> {
+    let (Frame { kind, detail, id, .. }, code, value) = (*seen.frame, seen.frame.asked(), seen.frame.value());
     match kind {
         frame::INVOKE => Some(Outgoing::Invoke { id, linked: seen.frame.linked_id(), code, value }),
         frame::RESULT => {
             let at = seen.before.peer.find(id)?;
-            Some(Outgoing::Result { id, code: seen.before.peer.places[at].code, value })
+            Some(Outgoing::Result { id, code: seen.before.peer.places[at].code.asked(), value })
         }
         frame::ERROR => Some(Outgoing::Error { id, code, value }),
         frame::REJECT => Some(Outgoing::Reject { id: Some(id), problem: Problem::Invoke(detail) }),

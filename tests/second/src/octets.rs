@@ -183,7 +183,7 @@ fn is_shortest(contents: &[u8]) -> bool {
 }
 
 /// Parts end with an octet below 80; none starts with 80, and the last one ends.
-fn is_object_identifier(contents: &[u8]) -> bool {
+pub fn is_object_identifier(contents: &[u8]) -> bool {
     let mut at_start = true;
     for &octet in contents {
         if at_start && octet == 0x80 {

@@ -1,11 +1,13 @@
 //! The generator's invalid tables, unsound states, and named elements and APDUs.
 
 use crate::cases::{self, Named};
+use crate::code::Code;
 use crate::faults;
 use crate::frame::{self, Frame};
 use crate::generate::{free_id, Generator, Group};
 use crate::indefinite;
 use crate::model::Model;
+use crate::names;
 use crate::state::State;
 
 /// Named octets, and what they are there to show.
@@ -52,12 +54,11 @@ enum Deck {
 impl Generator<'_> {
     /// An invalid table for a few calls, at times in an unsound state.
     pub(crate) fn invalid_table(&mut self) {
-        let (name, make) = faults::TABLES[self.turn(Deck::Tables, faults::TABLES.len())];
-        let model = faults::rich(&mut self.random);
-        self.set_model(model.clone());
+        let fault = self.turn(Deck::Tables, faults::table_names().len());
+        let (name, octets, model) = faults::table(fault, &mut self.random);
+        self.set_model(model);
         let state = self.random_state();
         self.set_state(&state);
-        let octets = make(model, &mut self.random);
         self.set(frame::TABLE, &octets);
         self.trouble = 20;
         for _ in 0..self.random.between(1, 2) {
@@ -76,10 +77,11 @@ impl Generator<'_> {
     }
 
     /// A valid table without a live record's code on one side.
-    fn lacking_table(&mut self) {
-        self.set_model(self.model.clone());
+    pub(crate) fn lacking_table(&mut self) {
+        let model = if self.random.percent(50) { self.model.clone() } else { Model::close(&mut self.random) };
+        self.set_model(model);
         let mut state = self.random_state();
-        let code = self.unknown_code();
+        let code = self.lacked_code();
         let id = free_id(&mut self.random, &state.own);
         let other = free_id(&mut self.random, &state.peer);
         match self.random.below(2) {
@@ -91,9 +93,24 @@ impl Generator<'_> {
         self.ordinary_call();
     }
 
+    /// A code that no operation has, often an error's name or one that differs from an operation's in its length only.
+    fn lacked_code(&mut self) -> Code {
+        let operations: Vec<Code> = self.model.operations.iter().map(|row| row.code).collect();
+        let errors: Vec<Code> = self.model.errors.iter().map(|row| row.code).collect();
+        let is_name = |code: &Code| matches!(code, Code::Name(_));
+        let code = match self.random.below(4) {
+            0 => self.random.pick_where(&errors, is_name),
+            1 => self.random.pick_where(&operations, is_name).and_then(names::of_another_length),
+            _ => None,
+        };
+        let lacked = code.filter(|code| code.is_right() && !operations.contains(code));
+        lacked.unwrap_or_else(|| self.unlisted_code())
+    }
+
     /// A state that is not sound for a few calls.
     pub(crate) fn unsound_state(&mut self) {
-        let (name, spoil) = faults::STATES[self.random.below(faults::STATES.len())];
+        let states = faults::states();
+        let (name, spoil) = states[self.random.below(states.len())];
         let mut state = self.random_state();
         spoil(&mut state, &mut self.random);
         self.set_state(&state);

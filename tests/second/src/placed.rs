@@ -134,7 +134,7 @@ fn received(seen: &Seen<'_>) -> Vec<String> {
 
 /// What is seen of a request with a value that is not one good element.
 fn requested(call: &str, seen: &Seen<'_>) -> Vec<String> {
-    let (value, answer, place) = (seen.frame.payload, answered(seen.answer), seen.answer.place());
+    let (value, answer, place) = (seen.frame.value(), answered(seen.answer), seen.answer.place());
     if value.is_empty() || octets::levels(value, State::LEVELS).is_some() {
         return Vec::new();
     }
@@ -161,13 +161,13 @@ fn and_octets_behind(seen: &Seen<'_>, element: &Element<'_>) -> Vec<String> {
 
 /// The rule for the value of a request, if it comes to that.
 fn rule(seen: &Seen<'_>) -> Option<Rule> {
-    let (table, Frame { kind, id, code, .. }) = (Table::new(seen.table)?, *seen.frame);
+    let (table, Frame { kind, id, .. }) = (Table::new(seen.table)?, *seen.frame);
     match kind {
-        frame::INVOKE => table.operation(code).map(|operation| operation.argument),
+        frame::INVOKE => table.operation(&seen.frame.asked().code()?).map(|operation| operation.argument),
         frame::RESULT => {
-            table.operation(seen.before.peer.places[seen.before.peer.find(id)?].code).map(|row| row.result)
+            table.operation(&seen.before.peer.places[seen.before.peer.find(id)?].code).map(|row| row.result)
         }
-        _ => table.error(code).map(|error| error.parameter),
+        _ => table.error(&seen.frame.asked().code()?).map(|error| error.parameter),
     }
 }
 

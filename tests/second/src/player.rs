@@ -1,7 +1,7 @@
 //! One end of an association, played by the engine or by another program, and what each of its lines must keep to.
 
 use crate::answer::{Answer, Indication, Problem, Refusal, REFUSALS};
-use crate::apdu::{self, Apdu, Code, Invoke};
+use crate::apdu::{self, Apdu, Invoke};
 use crate::drive::Drive;
 use crate::frame::{self, Frame};
 use crate::line::{Line, Room};
@@ -70,7 +70,7 @@ fn broken_rule(frame: &Frame<'_>, before: &State, line: &Line<'_>) -> Option<&'s
         (line.written.len() <= usize::from(frame.lent), "more octets were written than lent"),
         (!line.spoiled, "an octet behind the written ones was changed"),
         (line.place == 0 || has_place(&line.answer), "the answer has no place"),
-        (line.place == 0 || line.place < frame.payload.len(), "the place is not in the given octets"),
+        (line.place == 0 || line.place < frame.value().len(), "the place is not in the given octets"),
         (line.answer.is_accepted() || line.state == before, "a refused call changed the records"),
         (line.state.is_sound(), "the records are not sound"),
     ];
@@ -107,12 +107,10 @@ fn shows(octets: &[u8], answer: &Answer<'_>) -> bool {
 /// The APDU that an indication shows.
 fn shown(indication: Indication<'_>) -> Apdu<'_> {
     match indication {
-        Indication::Invoke { id, linked, code, value } => {
-            Apdu::Invoke(Invoke { id, linked, code: Code::Local(code), value })
-        }
-        Indication::Result { id, code, value, .. } => Apdu::Result { id, returned: Some((Code::Local(code), value)) },
+        Indication::Invoke { id, linked, code, value } => Apdu::Invoke(Invoke { id, linked, code: Some(code), value }),
+        Indication::Result { id, code, value, .. } => Apdu::Result { id, returned: Some((Some(code), value)) },
         Indication::AbsentResult { id, .. } => Apdu::Result { id, returned: None },
-        Indication::Error { id, code, value, .. } => Apdu::Error { id, code: Code::Local(code), value },
+        Indication::Error { id, code, value, .. } => Apdu::Error { id, code: Some(code), value },
         Indication::UserReject { id, problem } => Apdu::Reject { id: Some(id), problem },
         Indication::ProviderReject { id, problem } => Apdu::Reject { id, problem },
     }

@@ -14,14 +14,14 @@ use crate::replay::{self, Step, Verdict};
 use crate::rows::Rows;
 use crate::slips::SLIPS;
 use crate::state::State;
-use crate::ways::{self, DIFFERS, MALFORMED, TABLE_FIRST};
+use crate::ways::{self, code_field, DIFFERS, MALFORMED, TABLE_FIRST};
 
 /// How many captures `coverage` draws, and how often each row must occur in them.
 pub const CAPTURES: u64 = 10_000;
 pub const LEAST: u64 = 50;
 
 /// What a capture that agrees can have.
-const AGREES: [&str; 36] = [
+const AGREES: [&str; 45] = [
     "no entries",
     "one entry",
     "1,000 entries",
@@ -58,6 +58,15 @@ const AGREES: [&str; 36] = [
     "an APDU of indefinite length with its Reject",
     "an entry of 4,096 octets with an indefinite value",
     "an entry behind a refused APDU's Reject",
+    "an invoke with a name received",
+    "a result with a name received",
+    "an error with a name received",
+    "an invoke with a name sent",
+    "a result with a name sent",
+    "an error with a name sent",
+    "an entry of 4,096 octets with a name",
+    "a refused name with its Reject",
+    "a table of 5,144 octets",
 ];
 
 /// What captures reached, as rows.
@@ -94,7 +103,9 @@ impl Reached {
         let mut things = BTreeSet::new();
         let (mut ids, mut rejected) = (BTreeSet::new(), false);
         let verdict = replay::watch(&drawn.table, &drawn.capture, |entry, step| {
-            things.extend(thing(&step).into_iter().chain(limit(entry)).chain(forms(entry, &step)));
+            things.extend(
+                thing(&step).into_iter().chain(limit(entry)).chain(forms(entry, &step)).chain(names(entry, &step)),
+            );
             if let Step::Sent(Apdu::Invoke(Invoke { id, .. })) = step {
                 things.extend((!ids.insert(id)).then_some("an own id used again"));
             }
@@ -112,6 +123,7 @@ impl Reached {
                 things.extend((entries == 1).then_some("one entry"));
                 things.extend((entries == capture::ENTRIES).then_some("1,000 entries"));
                 things.extend((drawn.capture.len() == capture::OCTETS).then_some("60,000 octets"));
+                things.extend((drawn.table.len() == replay::TABLE_OCTETS).then_some("a table of 5,144 octets"));
                 things.iter().for_each(|thing| self.rows.count(&format!("agrees: {thing}")));
             }
             Verdict::Differs { .. } => self.rows.count(&format!("differs: {way}")),
@@ -183,6 +195,25 @@ fn forms(entry: Entry<'_>, step: &Step<'_>) -> Vec<&'static str> {
         });
     }
     forms
+}
+
+/// What an entry with a name is that does not differ.
+fn names(entry: Entry<'_>, step: &Step<'_>) -> Vec<&'static str> {
+    if code_field(entry.octets).is_none_or(|field| field.identifier() != 0x06) {
+        return Vec::new();
+    }
+    let thing = match step {
+        Step::Indicated(Indication::Invoke { .. }) => "an invoke with a name received",
+        Step::Indicated(Indication::Result { .. }) => "a result with a name received",
+        Step::Indicated(Indication::Error { .. }) => "an error with a name received",
+        Step::Sent(Apdu::Invoke(_)) => "an invoke with a name sent",
+        Step::Sent(Apdu::Result { .. }) => "a result with a name sent",
+        Step::Sent(Apdu::Error { .. }) => "an error with a name sent",
+        Step::Rejected(_) => "a refused name with its Reject",
+        _ => return Vec::new(),
+    };
+    let full = entry.octets.len() == State::OCTETS && !matches!(step, Step::Rejected(_));
+    [thing].into_iter().chain(full.then_some("an entry of 4,096 octets with a name")).collect()
 }
 
 /// The limit that an entry is at.

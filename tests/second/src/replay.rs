@@ -1,5 +1,5 @@
 //! Replays a capture on a fresh end: what was received is received again, what was sent is asked for again.
-//! Follows document 02, request One.
+//! Follows document 02, requests One and Five.
 
 use std::ffi::OsStr;
 use std::fs::File;
@@ -13,7 +13,7 @@ use crate::state::State;
 use crate::table::Table;
 
 /// The most octets of a valid table.
-pub const TABLE_OCTETS: usize = 2960;
+pub const TABLE_OCTETS: usize = 5144;
 
 /// What a replay says.
 #[derive(Clone, Copy, Debug, PartialEq, Eq)]
@@ -123,7 +123,8 @@ impl<'t> End<'t> {
         let apdu = apdu::read(octets).map_err(|unreadable| How::Unreadable(unreadable.problem))?;
         let (name, written) = match apdu {
             Apdu::Invoke(Invoke { id, linked, code, value }) => {
-                let asked = (id, linked, code.local().ok_or(How::ForeignCode)?);
+                let code = code.ok_or(How::ForeignCode)?;
+                let asked = (id, linked, code.asked());
                 ("invoke", engine::request_invoke(table, state, asked, value.unwrap_or(&[]), output))
             }
             Apdu::Result { id, returned } => {
@@ -131,8 +132,8 @@ impl<'t> End<'t> {
                 ("result", engine::request_result(table, state, id, value, output))
             }
             Apdu::Error { id, code, value } => {
-                let asked = (id, code.local().ok_or(How::ForeignCode)?);
-                ("error", engine::request_error(table, state, asked, value.unwrap_or(&[]), output))
+                let code = code.ok_or(How::ForeignCode)?;
+                ("error", engine::request_error(table, state, (id, code.asked()), value.unwrap_or(&[]), output))
             }
             Apdu::Reject { id: Some(id), problem: Problem::Invoke(problem) } => {
                 ("user reject", engine::request_reject(table, state, (id, problem), output))

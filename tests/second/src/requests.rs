@@ -2,11 +2,13 @@
 
 use crate::answer::Problem;
 use crate::apdu::Outgoing;
+use crate::code::Code;
 use crate::codes;
 use crate::flawed;
 use crate::frame::{self, Frame};
 use crate::generate::{free_id, live, side, Generator};
 use crate::model::OperationRow;
+use crate::names::{self, Wanted};
 use crate::oddities::VALUES;
 use crate::state::Record;
 use crate::table::Rule;
@@ -45,32 +47,34 @@ impl Generator<'_> {
             linked = Some(parent.map_or_else(|| free_id(&mut self.random, &self.drive.state.peer), |record| record.id));
             row = parent.and_then(|parent| self.child(parent)).filter(|_| !self.fault()).or(row);
         }
-        let code = row.filter(|_| !self.fault()).map_or_else(|| self.unknown_code(), |row| row.code);
+        let code = row.filter(|_| !self.fault()).map_or_else(|| self.unknown_code(), |row| row.code.into());
         let id = self.id(true, false);
         let value = self.value(row.map_or(Rule { kind: 0, optional: false }, |row| row.argument_rule()));
-        let lent = self.lent(Outgoing::Invoke { id, linked, code, value: &value }.octets());
-        let detail = if linked.is_some() { 1 } else { [0, 0, 0, 0, 2, 255][self.random.below(6)] };
+        let lent = self.lent(Outgoing::Invoke { id, linked, code: code.asked(), value: &value }.octets());
+        let detail = if linked.is_some() { frame::LINKED } else { [0, 0, 0, 0, 4, 0xFC][self.random.below(6)] };
         let linked = linked.unwrap_or_else(|| self.random.number());
-        self.call(Frame { kind: frame::INVOKE, detail, lent, id, code, linked, payload: &value });
+        let frame = Frame { kind: frame::INVOKE, detail, lent, id, linked, ..Frame::default() };
+        self.call(frame.asking(code.asked(), &value, &mut Vec::new()));
     }
 
     fn result(&mut self) {
         let record = self.answered(|class| !matches!(class, 3 | 5));
         let id = record.map_or_else(|| self.id(false, false), |record| record.id);
-        let code = record.map_or(0, |record| record.code);
+        let code = record.map_or(Code::default(), |record| record.code);
         let row = self.model.operation(code).map(|(_, row)| row);
         let value = self.value(row.map_or(Rule { kind: 0x04, optional: true }, |row| row.result_rule()));
-        let lent = self.lent(Outgoing::Result { id, code, value: &value }.octets());
+        let lent = self.lent(Outgoing::Result { id, code: code.asked(), value: &value }.octets());
         self.call(Frame { kind: frame::RESULT, lent, id, payload: &value, ..Frame::default() });
     }
 
     fn error(&mut self) {
         let record = self.answered(|class| !matches!(class, 4 | 5));
         let id = record.map_or_else(|| self.id(false, false), |record| record.id);
-        let (code, rule) = self.error_code(record.map_or(0, |record| record.code));
+        let (code, rule) = self.error_code(record.map_or(Code::default(), |record| record.code));
         let value = self.value(rule);
-        let lent = self.lent(Outgoing::Error { id, code, value: &value }.octets());
-        self.call(Frame { kind: frame::ERROR, lent, id, code, payload: &value, ..Frame::default() });
+        let lent = self.lent(Outgoing::Error { id, code: code.asked(), value: &value }.octets());
+        let frame = Frame { kind: frame::ERROR, lent, id, ..Frame::default() };
+        self.call(frame.asking(code.asked(), &value, &mut Vec::new()));
     }
 
     fn reject(&mut self) {
@@ -142,33 +146,51 @@ impl Generator<'_> {
     }
 
     /// A listed error of the operation; another error or none of the table if that is to go wrong.
-    pub(crate) fn error_code(&mut self, operation: i32) -> (i32, Rule) {
+    pub(crate) fn error_code(&mut self, operation: Code) -> (Wanted, Rule) {
         let index = self.model.operation(operation).map(|(index, _)| index);
         let listed = self.random.pick_where(&self.model.error_pairs, |pair| Some(usize::from(pair.0)) == index);
         let listed = listed.and_then(|pair| self.model.errors.get(usize::from(pair.1)).copied());
         let any = self.random.pick(&self.model.errors);
         let row = if self.fault() { any.filter(|_| self.random.percent(50)) } else { listed.or(any) };
         match row {
-            Some(row) => (row.code, row.rule()),
+            Some(row) => (row.code.into(), row.rule()),
             None => (self.unknown_error(), Rule { kind: 0x04, optional: true }),
         }
     }
 
-    pub(crate) fn unknown_code(&mut self) -> i32 {
-        let codes: Vec<i32> = self.model.operations.iter().map(|row| row.code).collect();
+    pub(crate) fn unknown_code(&mut self) -> Wanted {
+        let codes: Vec<Code> = self.model.operations.iter().map(|row| row.code).collect();
         self.absent_code(&codes)
     }
 
-    fn unknown_error(&mut self) -> i32 {
-        let codes: Vec<i32> = self.model.errors.iter().map(|row| row.code).collect();
+    /// A code of no operation that a record can hold.
+    pub(crate) fn unlisted_code(&mut self) -> Code {
+        loop {
+            if let Some(code) = self.unknown_code().asked().code().filter(Code::is_right) {
+                return code;
+            }
+        }
+    }
+
+    pub(crate) fn unknown_error(&mut self) -> Wanted {
+        let codes: Vec<Code> = self.model.errors.iter().map(|row| row.code).collect();
         self.absent_code(&codes)
     }
 
-    /// A code that is not in the list, often next to one that is.
-    fn absent_code(&mut self, codes: &[i32]) -> i32 {
-        match self.random.percent(50) {
-            true => codes::absent(codes, &mut self.random),
-            false => self.random.number_unless(|code| codes.contains(&code)),
+    /// A code that is not in the list, often next to one that is or with the same octets.
+    fn absent_code(&mut self, codes: &[Code]) -> Wanted {
+        let (random, names) = (&mut self.random, self.model.names());
+        loop {
+            let code = match random.below(8) {
+                0..=2 => codes::absent(codes, names, random).into(),
+                3..=4 => Wanted::Local(random.number()),
+                5 => Wanted::from(Code::Name(names::other(random, names))),
+                6 => Wanted::Name(names::no_name(random, names)),
+                _ => random.pick(codes).map_or(Wanted::Local(7), names::of_the_other_sort),
+            };
+            if code.asked().code().is_none_or(|code| !codes.contains(&code)) {
+                return code;
+            }
         }
     }
 

@@ -82,6 +82,38 @@ const INDEFINITE: &[(&str, &str, &str)] = &[
     ("reject-awaited-indefinite-sent", "received A500, sent A48005008001000000", "entry 1 differs"),
 ];
 
+/// Operation 2 and operation 2A 07, both of class 2, and error 2B 06 02 of both.
+const NAMES: &str = "FFFF 0002 0002 0018 0001 0028 0002 002E 0000 0036 0002 0036
+    00000002 02020200 00000000 02020204 00000001 0002 0000 0000 0001 0000
+    02 2A070000000000000000000000000000 03 2B060200000000000000000000000000";
+
+/// Days with codes that are names.
+const NAMED: &[(&str, &str, &str)] = &[
+    (
+        "names-of-every-kind",
+        "sent A10A02010506022A07020103, received A20C020105300706022A07020100, received A10A02010606022A07020104,
+         sent A20C020106300706022A07020109, sent A109020107020102020101, received A30802010706032B0602,
+         received A109020108020102020101, sent A30802010806032B0602, received A10B0201090681022A07020104,
+         received A10A02010A06022A08020104, sent A40602010A810101",
+        "entries 11 agree",
+    ),
+    ("name-of-no-operation", "sent A10B02010506032B0602020103", "entry 0 differs"),
+    ("name-with-a-zero-behind-it", "sent A10B02010506032A0700020103", "entry 0 differs"),
+    ("name-in-long-form-sent", "sent A10B0201050681022A07020103", "entry 0 differs"),
+    ("name-of-17-octets-sent", "sent A11902010506112A0700000000000000000000000000 0000020103", "entry 0 differs"),
+    (
+        "name-of-an-error-not-in-the-table",
+        "received A109020105020102020101, sent A30702010506022A07",
+        "entry 1 differs",
+    ),
+    (
+        "name-of-another-operation-in-a-result",
+        "received A10A02010606022A07020104, sent A20B0201063006020102020109",
+        "entry 1 differs",
+    ),
+    ("name-unknown-without-its-reject", "received A10A02010A06022A08020104", "entry 1 differs"),
+];
+
 /// Whole captures that are malformed.
 const MALFORMED: &[(&str, &str)] = &[
     ("no-octets", ""),
@@ -117,6 +149,7 @@ const LONG: &[Long] = &[
 /// Tables that are not valid, with their captures.
 const TABLES: &[(&str, &str, &str)] = &[
     ("table-not-valid", "0000 0010 0000 0010 0000 0010 0000 0011", "00000000 00000008"),
+    ("table-of-edition-3", "FFFF 0003 0000 0018 0000 0018 0000 0018 0000 0018 0000 0018", "00000000 00000008"),
     ("table-before-capture", "0000 0010 0000 0010 0000 0010 0000 0011", "00000000 00000000"),
 ];
 
@@ -134,10 +167,11 @@ pub fn samples() -> Vec<Sample> {
     let days = DAYS.iter().map(|(name, day, line)| sample(name, TABLE, days::capture(&entries(day)), *line));
     let indefinite =
         INDEFINITE.iter().map(|(name, day, line)| sample(name, CONSTRUCTED, days::capture(&entries(day)), *line));
+    let named = NAMED.iter().map(|(name, day, line)| sample(name, NAMES, days::capture(&entries(day)), *line));
     let malformed = MALFORMED.iter().map(|(name, capture)| sample(name, TABLE, octets(capture), "refused 20"));
     let long = LONG.iter().map(|(name, capture, line)| sample(name, TABLE, capture(), *line));
     let tables = TABLES.iter().map(|(name, table, capture)| sample(name, table, octets(capture), "refused 1"));
-    days.chain(indefinite).chain(malformed).chain(long).chain(tables).collect()
+    days.chain(indefinite).chain(named).chain(malformed).chain(long).chain(tables).collect()
 }
 
 /// The names of the samples' files with their octets. A sample without a table of its own has that of `right.table`.

@@ -23,8 +23,9 @@ pub fn table(octets: &[u8]) -> String {
     let Some(parts) = Table::parts(octets) else { return text + &format!("  {}\n", hex(octets)) };
     for row in parts.operations() {
         let (argument, result) = (rule(row.argument), rule(row.result));
+        let idempotent = if row.idempotent { " idempotent" } else { "" };
         text += &format!("  operation {} code {} class {}", row.index, row.code, row.class);
-        text += &format!(" argument {argument} result {result}\n");
+        text += &format!(" argument {argument} result {result}{idempotent}\n");
     }
     for row in parts.errors() {
         text += &format!("  error {} code {} parameter {}\n", row.index, row.code, rule(row.parameter));
@@ -32,6 +33,9 @@ pub fn table(octets: &[u8]) -> String {
     let pairs = |pairs: Vec<(usize, usize)>| pairs.iter().map(|(a, b)| format!(" {a}-{b}")).collect::<String>();
     text += &format!("  error pairs{}\n", pairs(parts.error_pairs().collect()));
     text += &format!("  child pairs{}\n", pairs(parts.child_pairs().collect()));
+    for (index, name) in parts.names().iter().enumerate() {
+        text += &format!("  name {index} of length {}: {}\n", name[0], hex(&name[1..]));
+    }
     text
 }
 
@@ -57,10 +61,13 @@ fn side(name: &str, side: &Side) -> String {
 }
 
 pub fn frame(frame: &Frame<'_>) -> String {
-    let Frame { kind, detail, lent, id, code, linked, payload } = *frame;
+    let Frame { kind, detail, lent, id, linked, .. } = *frame;
+    let (code, payload) = (frame.asked(), frame.value());
     let what = match kind {
         frame::RECEIVE => "receive".to_string(),
-        frame::INVOKE if detail == 1 => format!("request invoke {id} of operation {code} linked to {linked}"),
+        frame::INVOKE if frame.linked_id().is_some() => {
+            format!("request invoke {id} of operation {code} linked to {linked}")
+        }
         frame::INVOKE => format!("request invoke {id} of operation {code}"),
         frame::RESULT => format!("request result of {id}"),
         frame::ERROR => format!("request error {code} of {id}"),

@@ -58,7 +58,7 @@ impl Generator<'_> {
     pub(crate) fn put_invoke(&mut self, id: i32, linked: Option<i32>) -> Option<bool> {
         let row = self.random.pick(&self.model.operations)?;
         let value = self.value(row.argument_rule());
-        self.put(Outgoing::Invoke { id, linked, code: row.code, value: &value })
+        self.put(Outgoing::Invoke { id, linked, code: row.code.asked(), value: &value })
     }
 
     pub(crate) fn put_case(&mut self, lists: &[&[Named]]) -> Option<bool> {
@@ -123,6 +123,16 @@ impl Generator<'_> {
         self.change_fields(apdu, |fields| {
             let id = fields.first_mut()?;
             *id = element_in_form(id[0], &id[2..], form);
+            Some(())
+        })
+    }
+
+    /// Gives the length of a name more octets than it needs.
+    pub(crate) fn lengthen_name(&mut self, apdu: u8) -> Option<bool> {
+        let form = self.random.between(1, 4);
+        self.change_fields(apdu, |fields| {
+            let name = fields[1..].iter_mut().take(2).find(|field| field[0] == 0x06)?;
+            *name = element_in_form(0x06, &name[2..], form);
             Some(())
         })
     }

@@ -4,14 +4,16 @@
 use crate::answer::Problem;
 use crate::apdu::{self, Outgoing};
 use crate::cases;
+use crate::code::{Asked, Code};
 use crate::days::{Logged, RECEIVED};
 use crate::frame::{self, Frame};
 use crate::generate::{live, Generator};
 use crate::indefinite as named;
 use crate::model::OperationRow;
+use crate::names::{self, Wanted};
 use crate::octets::{self, CLOSING};
 use crate::state::{Record, State};
-use crate::values::{self, element, element_in_form, indefinite, integer_contents};
+use crate::values::{self, element, element_in_form, indefinite};
 
 /// Puts in an entry that differs, if the state reached and the last entry allow it; whether the day then goes on.
 type Slip = fn(&mut Generator<'_>) -> Option<bool>;
@@ -20,7 +22,7 @@ type Slip = fn(&mut Generator<'_>) -> Option<bool>;
 pub(crate) const SLIPS: &[(&str, &str, Slip)] = &[
     ("an invoke of an unknown operation", "invoke refused 4", |end| {
         let (id, code) = (end.free(true), end.unknown_code());
-        end.put(Outgoing::Invoke { id, linked: None, code, value: &[] })
+        end.put(Outgoing::Invoke { id, linked: None, code: code.asked(), value: &[] })
     }),
     ("an invoke with a live id", "invoke refused 5", |end| {
         let Record { id, .. } = live(&mut end.random, &end.drive.state.own)?;
@@ -41,48 +43,47 @@ pub(crate) const SLIPS: &[(&str, &str, Slip)] = &[
     ("an invoke with a wrong value", "invoke refused 10", |end| {
         let (id, row) = (end.free(true), end.random.pick(&end.model.operations)?);
         let value = end.wrong_value(row.argument_rule());
-        end.put(Outgoing::Invoke { id, linked: None, code: row.code, value: &value })
+        end.put(Outgoing::Invoke { id, linked: None, code: row.code.asked(), value: &value })
     }),
     ("an invoke beside 32 own records", "invoke refused 14", |end| {
         let row = end.random.pick_where(&end.model.operations, |row| matches!(row.class, 2..=4))?;
         for _ in 0..3 * State::RECORDS {
             let (id, value) = (end.free(true), end.value(row.argument_rule()));
-            let invoke = Frame { kind: frame::INVOKE, lent: u16::MAX, id, code: row.code, ..Frame::default() };
-            end.call(Frame { payload: &value, ..invoke });
+            let invoke = Frame { kind: frame::INVOKE, lent: u16::MAX, id, ..Frame::default() };
+            end.call(invoke.asking(row.code.asked(), &value, &mut Vec::new()));
         }
         let (id, value) = (end.free(true), end.value(row.argument_rule()));
         let full = end.drive.state.own.is_full();
-        full.then(|| end.put(Outgoing::Invoke { id, linked: None, code: row.code, value: &value }))?
+        full.then(|| end.put(Outgoing::Invoke { id, linked: None, code: row.code.asked(), value: &value }))?
     }),
     ("a result of no invocation", "result refused 11", |end| {
         let id = end.free(false);
-        end.put(Outgoing::Result { id, code: 0, value: &[] })
+        end.put(Outgoing::Result { id, code: Asked::Local(0), value: &[] })
     }),
     ("a result of a class that has none", "result refused 12", |end| {
         let (id, row) = end.invoked(|row| row.class == 3)?;
-        end.put(Outgoing::Result { id, code: row.code, value: &[] })
+        end.put(Outgoing::Result { id, code: row.code.asked(), value: &[] })
     }),
     ("a result with a wrong value", "result refused 10", |end| {
         let (id, row) = end.invoked(|row| row.class != 3)?;
         let value = end.wrong_value(row.result_rule());
-        end.put(Outgoing::Result { id, code: row.code, value: &value })
+        end.put(Outgoing::Result { id, code: row.code.asked(), value: &value })
     }),
     ("a result that its own code makes too long", "result refused 15", |end| {
-        let large =
-            |row: &OperationRow| matches!(row.result, 0x04 | 0x30 | 0xA0 | 0x80) && !(-128..128).contains(&row.code);
+        let large = |row: &OperationRow| matches!(row.result, 0x04 | 0x30 | 0xA0 | 0x80) && !is_short(row.code);
         let (id, row) = end.invoked(large)?;
-        let around = Outgoing::Result { id, code: 0, value: &[0; 4000] }.octets() - 4000;
+        let around = Outgoing::Result { id, code: Asked::Local(0), value: &[0; 4000] }.octets() - 4000;
         let mut value = values::sized(State::OCTETS - around, false);
         value[0] = row.result;
-        end.put(Outgoing::Result { id, code: 0, value: &value })
+        end.put(Outgoing::Result { id, code: Asked::Local(0), value: &value })
     }),
     ("an error of no invocation", "error refused 11", |end| {
         let (id, row) = (end.free(false), end.random.pick(&end.model.errors)?);
-        end.put(Outgoing::Error { id, code: row.code, value: &[] })
+        end.put(Outgoing::Error { id, code: row.code.asked(), value: &[] })
     }),
     ("an error of a class that has none", "error refused 12", |end| {
         let ((id, _), error) = (end.invoked(|row| row.class == 4)?, end.random.pick(&end.model.errors)?);
-        end.put(Outgoing::Error { id, code: error.code, value: &[] })
+        end.put(Outgoing::Error { id, code: error.code.asked(), value: &[] })
     }),
     ("an error that is not paired", "error refused 13", |end| {
         let (id, row) = end.invoked(|row| row.class != 4)?;
@@ -91,18 +92,18 @@ pub(crate) const SLIPS: &[(&str, &str, Slip)] = &[
         let unpaired: Vec<usize> = (0..end.model.errors.len()).filter(|error| !paired(*error)).collect();
         let error = end.model.errors[end.random.pick(&unpaired)?];
         let value = end.value(error.rule());
-        end.put(Outgoing::Error { id, code: error.code, value: &value })
+        end.put(Outgoing::Error { id, code: error.code.asked(), value: &value })
     }),
     ("an error that is not in the table", "error refused 13", |end| {
         let (id, _) = end.invoked(|row| row.class != 4)?;
-        let code = end.random.number_unless(|code| end.model.errors.iter().any(|row| row.code == code));
-        end.put(Outgoing::Error { id, code, value: &[] })
+        let code = end.unknown_error();
+        end.put(Outgoing::Error { id, code: code.asked(), value: &[] })
     }),
     ("an error with a wrong value", "error refused 10", |end| {
         let (id, row) = end.invoked(|row| row.class != 4)?;
         let (code, rule) = end.error_code(row.code);
         let value = end.wrong_value(rule);
-        end.put(Outgoing::Error { id, code, value: &value })
+        end.put(Outgoing::Error { id, code: code.asked(), value: &value })
     }),
     ("a Reject with an invoke problem of the engine's", "user reject refused 16", |end| {
         let problem = Problem::Invoke([0, 1, 5, 6, 7][end.random.below(5)]);
@@ -168,8 +169,37 @@ pub(crate) const SLIPS: &[(&str, &str, Slip)] = &[
         end.put_case(&[cases::MISTYPED_WITH_ID, cases::MISTYPED_WITHOUT_ID, named::MISTYPED_WITH_ID])
     }),
     ("a sent Reject with wrong fields", "wrong fields", |end| end.put_case(&[cases::UNACCEPTABLE_REJECTS])),
-    ("an invoke with a 06 code", "code 06", |end| end.put_code(0xA1, 0x06, &[0x2A, 0x07])),
-    ("an error with a 06 code", "code 06", |end| end.put_code(0xA3, 0x06, &[0x2A, 0x07])),
+    ("an invoke with a name over 16 octets", "name over 16 octets", |end| {
+        let contents = names::long(&mut end.random, end.model.names());
+        end.put_code(0xA1, 0x06, &contents)
+    }),
+    ("an error with a name over 16 octets", "name over 16 octets", |end| {
+        let contents = names::long(&mut end.random, end.model.names());
+        end.put_code(0xA3, 0x06, &contents)
+    }),
+    ("an invoke of a name that no operation has", "invoke refused 4", |end| {
+        let id = end.free(true);
+        let code = names::other(&mut end.random, end.model.names());
+        end.put(Outgoing::Invoke { id, linked: None, code: Code::Name(code).asked(), value: &[] })
+    }),
+    ("an invoke of an operation's name with another length", "invoke refused 4", |end| {
+        let codes: Vec<Code> = end.model.operations.iter().map(|row| row.code).collect();
+        let code = end.random.pick_where(&codes, is_name).and_then(names::of_another_length)?;
+        let (id, unknown) = (end.free(true), code.is_right() && !codes.contains(&code));
+        unknown.then(|| end.put(Outgoing::Invoke { id, linked: None, code: code.asked(), value: &[] }))?
+    }),
+    ("an error of a name that is not in the table", "error refused 13", |end| {
+        let (id, _) = end.invoked(|row| row.class != 4)?;
+        let code = names::other(&mut end.random, end.model.names());
+        end.put(Outgoing::Error { id, code: Code::Name(code).asked(), value: &[] })
+    }),
+    ("an invoke with its name in long form", "invoke with other octets", |end| end.lengthen_name(apdu::INVOKE)),
+    ("an error with its name in long form", "error with other octets", |end| end.lengthen_name(apdu::ERROR)),
+    ("a result with another name", "result with other octets", |end| {
+        let name = names::other(&mut end.random, end.model.names());
+        let code = Wanted::from(Code::Name(name)).element(&mut end.random);
+        end.change_result(|_| code)
+    }),
     ("an invoke with a code over four octets", "code over four octets", |end| end.put_code(0xA1, 0x02, &LONG)),
     ("an error with a code over four octets", "code over four octets", |end| end.put_code(0xA3, 0x02, &LONG)),
     ("a sent Reject with a general problem", "Reject 80", |end| end.put_reject(Problem::General, 3)),
@@ -201,8 +231,9 @@ pub(crate) const SLIPS: &[(&str, &str, Slip)] = &[
         })
     }),
     ("a result with any other code", "result with other octets", |end| {
-        let code = end.unknown_code();
-        end.change_result(|_| element(0x02, &integer_contents(code)))
+        let code = end.unlisted_code();
+        let code = Wanted::from(code).element(&mut end.random);
+        end.change_result(|_| code)
     }),
     ("a result with another code of as many octets", "result with other octets", |end| {
         end.change_result(|code| [&code[..code.len() - 1], &[code[code.len() - 1] ^ 1]].concat())
@@ -263,3 +294,12 @@ pub(crate) const SLIPS: &[(&str, &str, Slip)] = &[
 
 /// A number of five octets.
 const LONG: [u8; 5] = [0x01, 0x00, 0x00, 0x00, 0x07];
+
+fn is_name(code: &Code) -> bool {
+    matches!(code, Code::Name(_))
+}
+
+/// Whether a code takes no more octets than 0 does.
+fn is_short(code: Code) -> bool {
+    matches!(code, Code::Local(-128..=127))
+}

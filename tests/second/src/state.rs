@@ -1,11 +1,24 @@
 //! The records of open invocations on both sides and when they are sound.
-//! Follows document 01, "Records" and the limits of "What is built".
+//! Follows document 01, "Records" and the limits of "What is built", with document 02, request Five.
+
+use crate::code::Code;
 
 /// An open invocation.
 #[derive(Clone, Copy, Debug, Default, PartialEq, Eq)]
 pub struct Record {
     pub id: i32,
-    pub code: i32,
+    pub code: Code,
+}
+
+impl Record {
+    /// 0 for an unused place.
+    #[inline]
+    fn rubbish(&self) -> i32 {
+        match self.code {
+            Code::Local(code) => self.id | code,
+            Code::Name(_) => 1,
+        }
+    }
 }
 
 /// The records of one side: `count` live ones, then unused places of 0, 0.
@@ -60,8 +73,9 @@ impl Side {
     pub fn is_sound(&self) -> bool {
         let count = usize::from(self.count);
         count <= State::RECORDS
-            && self.places[count..].iter().fold(0, |rubbish, place| rubbish | place.id | place.code) == 0
+            && self.places[count..].iter().fold(0, |rubbish, place| rubbish | place.rubbish()) == 0
             && !self.repeats_an_id()
+            && self.live().iter().all(|record| record.code.is_right())
     }
 
     fn repeats_an_id(&self) -> bool {
@@ -79,7 +93,7 @@ impl Side {
     }
 
     /// A new record goes last; the side is not full.
-    pub fn add(&mut self, id: i32, code: i32) {
+    pub fn add(&mut self, id: i32, code: Code) {
         self.places[usize::from(self.count)] = Record { id, code };
         self.count += 1;
     }

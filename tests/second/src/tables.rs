@@ -109,12 +109,14 @@ impl Draw {
         cases
     }
 
-    /// A valid table, its text and its text by hand; the first is empty, the second full.
+    /// A valid table, its text and its text by hand; the first ones are empty or full.
     fn valid(&mut self, table: usize) -> [Case; 3] {
         let random = &mut self.random;
         let model = match table {
             0 => Model::default(),
             1 => Model::full(random),
+            2 => Model::full_of_names(random),
+            3 => Model { names: Some(Vec::new()), ..Model::default() },
             _ => Model::varied(random),
         };
         let octets = model.octets();

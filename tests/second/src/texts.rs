@@ -1,6 +1,8 @@
 //! Tables as text that a hand might write. Follows docs/TABLES.md, "From text to octets".
 
-use crate::listing::{CLASSES, PARTS};
+use crate::asked::hex;
+use crate::code::{self, Code};
+use crate::listing::{CLASSES, EDITION, PARTS};
 use crate::model::Model;
 use crate::random::Random;
 use crate::table::Rule;
@@ -16,11 +18,14 @@ pub enum Kind {
     Mark,
     Word,
     Number,
+    /// The contents of a name.
+    Name,
     Class,
     Words,
     No,
     Type,
     Optional,
+    Idempotent,
 }
 
 #[derive(Clone, Debug, PartialEq, Eq)]
@@ -35,41 +40,53 @@ impl Piece {
     }
 }
 
+/// The line `edition 2` as an entry, behind the parts.
+pub const EDITION_ENTRY: (usize, usize) = (5, 0);
+
 /// The pieces of an entry's line as `tabcheck` writes it; an entry is its part and its index there.
 pub fn pieces(model: &Model, (part, index): (usize, usize)) -> Vec<Piece> {
+    if (part, index) == EDITION_ENTRY {
+        return EDITION.split(' ').map(|word| Piece::new(Kind::Start, word)).collect();
+    }
     let mut line: Vec<Piece> = PARTS[part].split(' ').map(|word| Piece::new(Kind::Start, word)).collect();
     line.extend([Piece::new(Kind::Index, index), Piece::new(Kind::Mark, ':')]);
     match part {
         0 => {
             let row = model.operations[index];
-            number(&mut line, "code", row.code);
+            code(&mut line, row.code);
             line.push(Piece::new(Kind::Mark, ','));
             line.extend([Piece::new(Kind::Word, "class"), Piece::new(Kind::Class, row.class)]);
             let words = CLASSES.get(usize::from(row.class).wrapping_sub(1));
             line.extend(words.map(|words| Piece::new(Kind::Words, format!("({words})"))));
             value(&mut line, "argument", row.argument_rule());
             value(&mut line, "result", row.result_rule());
+            if row.flags & 8 != 0 {
+                line.extend([Piece::new(Kind::Mark, ','), Piece::new(Kind::Idempotent, "idempotent")]);
+            }
         }
         1 => {
-            number(&mut line, "code", model.errors[index].code);
+            code(&mut line, model.errors[index].code);
             value(&mut line, "parameter", model.errors[index].rule());
         }
+        4 => line.push(Piece::new(Kind::Name, hex(code::contents(&model.names()[index])))),
         _ => {
             let (first, second) = if part == 2 { model.error_pairs[index] } else { model.child_pairs[index] };
-            let code = |index: u16| model.operations[usize::from(index)].code;
+            let operation = |index: u16| model.operations[usize::from(index)].code;
             line.push(Piece::new(Kind::Word, "operation"));
-            number(&mut line, "code", code(first));
+            code(&mut line, operation(first));
             line.push(Piece::new(Kind::Mark, ','));
             line.push(Piece::new(Kind::Word, if part == 2 { "error" } else { "child" }));
-            let second = if part == 2 { model.errors[usize::from(second)].code } else { code(second) };
-            number(&mut line, "code", second);
+            code(&mut line, if part == 2 { model.errors[usize::from(second)].code } else { operation(second) });
         }
     }
     line
 }
 
-fn number(line: &mut Vec<Piece>, word: &str, number: i32) {
-    line.extend([Piece::new(Kind::Word, word), Piece::new(Kind::Number, number)]);
+fn code(line: &mut Vec<Piece>, code: Code) {
+    line.extend(match code {
+        Code::Local(code) => [Piece::new(Kind::Word, "code"), Piece::new(Kind::Number, code)],
+        Code::Name(name) => [Piece::new(Kind::Word, "name"), Piece::new(Kind::Name, hex(code::contents(&name)))],
+    });
 }
 
 fn value(line: &mut Vec<Piece>, word: &str, rule: Rule) {
@@ -82,10 +99,12 @@ fn value(line: &mut Vec<Piece>, word: &str, rule: Rule) {
     line.extend(rule.optional.then(|| Piece::new(Kind::Optional, "optional")));
 }
 
-/// Every entry of a table, part by part.
+/// Every entry of a table, part by part, behind the line of edition 2.
 pub fn entries(model: &Model) -> Vec<(usize, usize)> {
-    let counts = [model.operations.len(), model.errors.len(), model.error_pairs.len(), model.child_pairs.len()];
-    (0..4).flat_map(|part| (0..counts[part]).map(move |index| (part, index))).collect()
+    let [operations, errors] = [model.operations.len(), model.errors.len()];
+    let counts = [operations, errors, model.error_pairs.len(), model.child_pairs.len(), model.names().len()];
+    let parts = (0..5).flat_map(|part| (0..counts[part]).map(move |index| (part, index)));
+    model.names.iter().map(|_| EDITION_ENTRY).chain(parts).collect()
 }
 
 /// A hand's way to write: how many times in a hundred it does what it need not.
@@ -111,7 +130,7 @@ impl Hand {
             match piece.kind {
                 Kind::Index if random.percent(self.bare) => piece.text = random.below(700).to_string(),
                 Kind::Words if random.percent(self.bare) => piece.text = WORDS[random.below(4)].to_string(),
-                Kind::Type if random.percent(self.upper) => piece.text = piece.text.to_uppercase(),
+                Kind::Type | Kind::Name if random.percent(self.upper) => piece.text = piece.text.to_uppercase(),
                 _ => {}
             }
         }
@@ -124,12 +143,15 @@ impl Hand {
             let least = usize::from(at > 0 && piece.kind != Kind::Mark);
             let blanks = if random.percent(self.blanks) { random.between(least, 3) } else { least };
             for _ in 0..blanks {
-                line.push(if random.percent(self.blanks / 3) { '\t' } else { ' ' });
+                line.push(match random.percent(self.blanks / 3) {
+                    true => ['\t', '\t', '\r'][random.below(3)],
+                    false => ' ',
+                });
             }
             line += &piece.text;
         }
         if random.percent(self.blanks) {
-            line += ["  ", "\t", " \t "][random.below(3)];
+            line += ["  ", "\t", " \t ", "\r"][random.below(4)];
         }
         line
     }
@@ -152,7 +174,7 @@ impl Hand {
 
     /// Entries in another order, those of one part in theirs.
     fn order(entries: Vec<(usize, usize)>, random: &mut Random) -> Vec<(usize, usize)> {
-        let mut ranks: Vec<u64> = (0..4).map(|_| random.draw()).collect();
+        let mut ranks: Vec<u64> = (0..6).map(|_| random.draw()).collect();
         if random.percent(50) {
             let mut sorted = entries;
             sorted.sort_by_key(|entry| ranks[entry.0]);
@@ -162,7 +184,7 @@ impl Hand {
         ranks = entries.iter().map(|_| random.draw()).collect();
         let mut places: Vec<(u64, usize)> = ranks.into_iter().zip(entries.iter().map(|entry| entry.0)).collect();
         places.sort_unstable();
-        let mut next = [0; 4];
+        let mut next = [0; 6];
         let take = |(_, part): (u64, usize)| {
             next[part] += 1;
             (part, next[part] - 1)
@@ -206,6 +228,14 @@ impl Text {
     fn push(&mut self, line: String, entry: Option<(usize, usize)>) {
         self.lines.push(line);
         self.entries.push(entry);
+    }
+
+    /// Drops an entry's line, if there is one.
+    pub fn remove(&mut self, entry: (usize, usize)) -> Option<()> {
+        let at = self.line_of(entry).checked_sub(1)?;
+        self.lines.remove(at);
+        self.entries.remove(at);
+        Some(())
     }
 
     /// The number of an entry's line, counted from 1.

@@ -3,7 +3,7 @@
 use crate::answer::Problem;
 use crate::apdu;
 use crate::capture::{Malformed, Reader};
-use crate::octets;
+use crate::octets::{self, Element};
 use crate::replay::{self, How, Verdict};
 use crate::state::State;
 
@@ -36,7 +36,7 @@ pub const DIFFERS: [&str; 37] = [
     "not well formed",
     "another first octet",
     "wrong fields",
-    "code 06",
+    "name over 16 octets",
     "code over four octets",
     "Reject 80",
     "Reject 82",
@@ -98,7 +98,7 @@ fn differs(how: How, octets: &[u8]) -> String {
         How::Unreadable(Problem::BADLY_STRUCTURED_APDU) => "not well formed",
         How::Unreadable(Problem::UNRECOGNIZED_APDU) => "another first octet",
         How::Unreadable(_) => "wrong fields",
-        How::ForeignCode if code_identifier(octets) == Some(0x06) => "code 06",
+        How::ForeignCode if code_identifier(octets) == Some(0x06) => "name over 16 octets",
         How::ForeignCode => "code over four octets",
         How::NoUserReject(None, _) => "Reject with 05 00",
         How::NoUserReject(_, problem) => return format!("Reject {:02x}", problem.octets().0),
@@ -112,10 +112,19 @@ fn differs(how: How, octets: &[u8]) -> String {
 
 /// The identifier octet of the code of an Invoke or Error.
 fn code_identifier(octets: &[u8]) -> Option<u8> {
+    code_field(octets).map(|field| field.identifier())
+}
+
+/// The code of an Invoke, Result or Error.
+pub(crate) fn code_field(octets: &[u8]) -> Option<Element<'_>> {
     let (apdu, _) = octets::split(octets, State::LEVELS)?;
     let (_id, mut rest) = octets::split(apdu.contents(), State::LEVELS)?;
     if apdu.identifier() == apdu::INVOKE && matches!(rest.first(), Some(0x80 | 0x81)) {
         rest = octets::split(rest, State::LEVELS)?.1;
     }
-    rest.first().copied()
+    let (mut field, _) = octets::split(rest, State::LEVELS)?;
+    if apdu.identifier() == apdu::RESULT {
+        field = octets::split(field.contents(), State::LEVELS)?.0;
+    }
+    Some(field)
 }

@@ -3,6 +3,7 @@
 use crate::common::hex;
 use second::answer::Problem;
 use second::apdu::Outgoing;
+use second::code::Asked;
 use second::octets::{element_octets, integer, integer_octets, length_octets, levels, split, Writer};
 use second::values::{deep, deep_in_forms, element, element_in_form, sized};
 
@@ -108,15 +109,19 @@ fn integers_that_are_not_shortest_or_too_long_are_none() {
 fn apdus_are_measured_as_they_are_written() {
     let (all, some) = (deep_in_forms(0x30, 16, false, |_| true), deep_in_forms(0x30, 9, true, |level| level % 2 == 0));
     let sized = [200, 300, 65_539].map(|octets| sized(octets, octets == 300));
+    let name = [0x2A; 16];
     let values = [vec![Vec::new(), deep(0x30, 1, false), deep(0x30, 16, true), all, some], sized.to_vec()].concat();
     for (number, value) in INTEGERS.iter().flat_map(|(number, _)| values.iter().map(move |value| (*number, value))) {
         let problem = Problem::MISTYPED_APDU;
         let value_levels = levels(value, 99).unwrap_or(0);
         for (apdu, value_levels) in [
-            (Outgoing::Invoke { id: number, linked: None, code: 7, value }, value_levels),
-            (Outgoing::Invoke { id: 5, linked: Some(number), code: number, value }, value_levels),
-            (Outgoing::Result { id: number, code: number, value }, value_levels),
-            (Outgoing::Error { id: number, code: number, value }, value_levels),
+            (Outgoing::Invoke { id: number, linked: None, code: Asked::Local(7), value }, value_levels),
+            (Outgoing::Invoke { id: 5, linked: Some(number), code: Asked::Local(number), value }, value_levels),
+            (Outgoing::Result { id: number, code: Asked::Local(number), value }, value_levels),
+            (Outgoing::Error { id: number, code: Asked::Local(number), value }, value_levels),
+            (Outgoing::Invoke { id: number, linked: None, code: Asked::Name(&name[..1]), value }, value_levels),
+            (Outgoing::Result { id: number, code: Asked::Name(&name), value }, value_levels),
+            (Outgoing::Error { id: number, code: Asked::Name(&name[..9]), value }, value_levels),
             (Outgoing::Reject { id: Some(number), problem }, 0),
             (Outgoing::Reject { id: None, problem }, 0),
         ] {

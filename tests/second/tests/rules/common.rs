@@ -1,5 +1,6 @@
 //! Calls and answers in words, so that a case is one line.
 
+use second::code::{Asked, Code};
 use second::drive::{self, Drive};
 use second::frame::{self, Frame};
 use second::model::{ErrorRow, Model, OperationRow};
@@ -23,8 +24,8 @@ pub fn hex(text: &str) -> Vec<u8> {
 
 pub fn state(own: &[(i32, i32)], peer: &[(i32, i32)]) -> State {
     let mut state = State::fresh();
-    own.iter().for_each(|&(id, code)| state.own.add(id, code));
-    peer.iter().for_each(|&(id, code)| state.peer.add(id, code));
+    own.iter().for_each(|&(id, code)| state.own.add(id, Code::Local(code)));
+    peer.iter().for_each(|&(id, code)| state.peer.add(id, Code::Local(code)));
     state
 }
 
@@ -42,18 +43,26 @@ pub fn model(
     error_pairs: &[(u16, u16)],
     child_pairs: &[(u16, u16)],
 ) -> Model {
-    let operation = |&(code, class, argument, result, flags): &_| OperationRow { code, class, argument, result, flags };
-    let error = |&(code, parameter, optional): &_| ErrorRow { code, parameter, optional };
+    let operation = |&(code, class, argument, result, flags): &(i32, u8, u8, u8, u8)| {
+        let code = Code::Local(code);
+        OperationRow { code, class, argument, result, flags }
+    };
+    let error = |&(code, parameter, optional): &(i32, u8, u8)| {
+        let code = Code::Local(code);
+        ErrorRow { code, parameter, optional }
+    };
     Model {
         operations: operations.iter().map(operation).collect(),
         errors: errors.iter().map(error).collect(),
         error_pairs: error_pairs.to_vec(),
         child_pairs: child_pairs.to_vec(),
+        names: None,
     }
 }
 
 /// Plays a call in words: `receive HEX`, `invoke ID CODE HEX`, `linked ID LINKED CODE HEX`, `result ID HEX`,
-/// `error ID CODE HEX`, `reject ID PROBLEM`, `own ID`, `peer ID`; `@N` in front lends N octets. Gives the line.
+/// `error ID CODE HEX`, `reject ID PROBLEM`, `own ID`, `peer ID`; `@N` in front lends N octets. A CODE is a number, or a
+/// name as `n` and hexadecimal digits. Gives the line.
 pub fn play(table: &[u8], state: &State, call: &str) -> String {
     let mut words: Vec<&str> = call.split_whitespace().collect();
     let mut frame = Frame { lent: 5000, ..Frame::default() };
@@ -68,19 +77,25 @@ pub fn play(table: &[u8], state: &State, call: &str) -> String {
         "linked" => 3,
         _ => 1,
     };
-    let payload = hex(&words[1 + fields..].join(""));
+    let (payload, mut room) = (hex(&words[1 + fields..].join("")), Vec::new());
     frame.payload = &payload;
     frame.id = if fields > 0 { number(1) } else { 0 };
     match words[0] {
         "receive" => frame.kind = frame::RECEIVE,
-        "invoke" => (frame.kind, frame.code) = (frame::INVOKE, number(2)),
-        "linked" => (frame.kind, frame.detail, frame.linked, frame.code) = (frame::INVOKE, 1, number(2), number(3)),
+        "invoke" => frame.kind = frame::INVOKE,
+        "linked" => (frame.kind, frame.detail, frame.linked) = (frame::INVOKE, 1, number(2)),
         "result" => frame.kind = frame::RESULT,
-        "error" => (frame.kind, frame.code) = (frame::ERROR, number(2)),
+        "error" => frame.kind = frame::ERROR,
         "reject" => (frame.kind, frame.detail) = (frame::REJECT, number(2) as u8),
         "own" => (frame.kind, frame.detail) = (frame::FORGET, 0),
         "peer" => (frame.kind, frame.detail) = (frame::FORGET, 1),
         other => panic!("{other} is no call"),
+    }
+    if matches!(frame.kind, frame::INVOKE | frame::ERROR) {
+        let word = words[fields];
+        let name = word.strip_prefix('n').map(hex);
+        let code = name.as_ref().map_or_else(|| Asked::Local(word.parse().unwrap()), |name| Asked::Name(name));
+        frame = frame.asking(code, &payload, &mut room);
     }
     let (mut drive, mut line) = (Drive::new(table.to_vec(), state.clone()), Vec::new());
     assert!(drive.play(&frame, &mut line), "{call} is no call");

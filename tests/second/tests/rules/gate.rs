@@ -75,6 +75,7 @@ fn the_example_of_the_protocol_and_the_ends_of_a_run() {
     };
     append(frame::TABLE, 0, 0, 0, &table);
     append(frame::STATE, 0, 0, 0, &[1; frame::IMAGE_OCTETS + 1]);
+    append(frame::STATE, 0, 0, 0, &[1; frame::LOCAL_IMAGE_OCTETS - 1]);
     append(frame::INVOKE, 64, 5, 7, &value);
     append(frame::RECEIVE, 11, 0, 0, &error);
     append(8, 0, 0, 0, &[]);

@@ -3,10 +3,13 @@
 use std::collections::BTreeSet;
 
 use crate::common::{model, play, state};
+use second::code::Code;
 use second::codes::{self, Position, LENGTHS};
 use second::coverage::{CALLS, SEEDS};
 use second::generate;
 use second::looked_up::{lookup, List};
+use second::model::Model;
+use second::names;
 use second::random::Random;
 use second::table::Table;
 
@@ -27,8 +30,9 @@ fn every_entry_is_found_and_nothing_else() {
         let beside = codes.iter().flat_map(|code| [code.wrapping_sub(1), *code, code.wrapping_add(1)]);
         for wanted in beside.chain([i32::MIN, -1, 0, 1, i32::MAX]) {
             let place = codes.iter().position(|code| *code == wanted);
-            assert_eq!(table.operation(wanted).map(|entry| entry.index), place, "{wanted} in {codes:?}");
-            assert_eq!(table.error(wanted).map(|entry| entry.index), place, "{wanted} in {codes:?}");
+            let code = Code::Local(wanted);
+            assert_eq!(table.operation(&code).map(|entry| entry.index), place, "{wanted} in {codes:?}");
+            assert_eq!(table.error(&code).map(|entry| entry.index), place, "{wanted} in {codes:?}");
         }
     }
 }
@@ -40,12 +44,20 @@ fn drawn_codes_stand_where_they_are_to_stand() {
         let length = random.between(low, high);
         let codes = codes::spread(&mut random, length);
         assert!(codes.windows(2).all(|pair| pair[0] < pair[1]), "{codes:?}");
+        let (names, named) = (names::different(&mut random, 20), random.below(length.min(20) + 1));
+        let indexes = (0..named as i64).map(|index| codes::FIRST_NAME + index);
+        let places: Vec<i64> = codes[named..].iter().map(|&code| i64::from(code)).chain(indexes).collect();
         for position in Position::ALL {
-            let code = position.code(&codes, &mut random);
-            assert!(code.is_none_or(|code| Position::of(code, &codes) == Some(position)), "{code:?} in {codes:?}");
-            assert!(code.is_none() || position.is_in(codes.len()), "{code:?} in {codes:?}");
+            let place = position.place(&places, names.len(), &mut random);
+            assert!(
+                place.is_none_or(|place| Position::of(place, &places) == Some(position)),
+                "{place:?} in {places:?}"
+            );
+            assert!(place.is_none() || position.is_in(places.len()), "{place:?} in {places:?}");
+            assert!(place.is_none_or(|at| codes::place(&codes::code(at, &names), &names) == Some(at)), "{place:?}");
         }
-        assert!(!codes.contains(&codes::absent(&codes, &mut random)), "{codes:?}");
+        let list: Vec<Code> = places.iter().map(|&place| codes::code(place, &names)).collect();
+        assert!(!list.contains(&codes::absent(&list, &names, &mut random)), "{list:?}");
     }
 }
 
@@ -68,10 +80,35 @@ fn scripts_ask_for_every_entry_and_every_gap_of_full_lists() {
     let mut places = BTreeSet::new();
     for seed in 1..=SEEDS {
         generate::watch(seed, CALLS, &mut |seen| {
-            let Some(found) = lookup(seen).filter(|found| found.codes.len() == 64) else { return };
-            let below = found.codes.iter().filter(|code| **code < found.wanted).count();
-            places.insert((found.list == List::Errors, below, found.codes.contains(&found.wanted)));
+            let Some(found) = lookup(seen).filter(|found| found.places.len() == 64) else { return };
+            let below = found.places.iter().filter(|place| **place < found.wanted).count();
+            places.insert((found.list == List::Errors, below, found.places.contains(&found.wanted)));
         });
     }
     assert_eq!(places.len(), 2 * (64 + 65), "{places:?}");
+}
+
+#[test]
+fn names_are_found_behind_local_codes() {
+    let mut random = Random::new(3);
+    for _ in 0..300 {
+        let model = Model::searched(&mut random);
+        let octets = model.octets();
+        let table = Table::new(&octets).unwrap();
+        let other = names::other(&mut random, model.names());
+        let wanted = model.names().iter().chain([&other]).map(|name| Code::Name(*name));
+        for code in
+            wanted.chain(model.operations.iter().map(|row| row.code)).chain(model.errors.iter().map(|row| row.code))
+        {
+            let place = model.operations.iter().position(|row| row.code == code);
+            assert_eq!(
+                table.operation(&code).map(|entry| (entry.index, entry.code)),
+                place.map(|at| (at, code)),
+                "{code}"
+            );
+            assert_eq!(table.has_operation(&code), place.is_some(), "{code}");
+            let place = model.errors.iter().position(|row| row.code == code);
+            assert_eq!(table.error(&code).map(|entry| (entry.index, entry.code)), place.map(|at| (at, code)), "{code}");
+        }
+    }
 }

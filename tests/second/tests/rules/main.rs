@@ -8,6 +8,7 @@ mod gate;
 mod indefinite;
 mod lines;
 mod lookups;
+mod names;
 mod places;
 mod readings;
 mod replays;

@@ -1,6 +1,7 @@
 //! The readings of document 01's open points, one case each where a case can show them.
 
 use crate::common::{check, hex, model, play, state, Case};
+use second::code::Code;
 use second::frame;
 use second::state::{Record, State};
 
@@ -183,10 +184,10 @@ fn requests_are_judged_in_order() {
 #[test]
 fn soundness() {
     let mut zero = State::fresh();
-    zero.own.add(0, 0);
+    zero.own.add(0, Code::Local(0));
     let mut twice = state(&[(5, 2), (6, 2), (5, 3)], &[]);
     let mut rubbish = State::fresh();
-    rubbish.peer.places[31] = Record { id: 0, code: 1 };
+    rubbish.peer.places[31] = Record { id: 0, code: Code::Local(1) };
     let mut over = State::fresh();
     over.own.count = 33;
     let cases = [

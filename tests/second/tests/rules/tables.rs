@@ -4,6 +4,7 @@ use std::collections::BTreeSet;
 
 use crate::common::{hex, model, T};
 use second::asked::{Case, Expected, Got, Question};
+use second::code::Code;
 use second::extension::{self, answer, ANSWERS};
 use second::first_fault::{first_fault, RULES};
 use second::listing::listing;
@@ -27,9 +28,9 @@ fn a_table_has_a_first_fault_just_where_it_is_not_valid() {
     let mut random = Random::new(1);
     for _ in 0..300 {
         assert_eq!(rule(&Model::varied(&mut random).octets()), None);
-        for (name, fault) in faults::TABLES {
-            let rich = faults::rich(&mut random);
-            assert!(rule(&fault(rich, &mut random)).is_some(), "{name}");
+        for fault in 0..faults::table_names().len() {
+            let (name, octets, model) = faults::table(fault, &mut random);
+            assert!(rule(&octets).is_some() && rule(&model.octets()).is_none(), "{name}");
         }
         for (at, name) in RULES.into_iter().enumerate() {
             assert_eq!(rule(&broken::one(at, &mut random)).as_deref(), Some(name));
@@ -40,6 +41,7 @@ fn a_table_has_a_first_fault_just_where_it_is_not_valid() {
         rule(&(0..length).map(|_| random.octet() & 1).collect::<Vec<u8>>());
     }
     assert_eq!(rule(&Model::full(&mut random).octets()), None);
+    assert_eq!(rule(&Model::full_of_names(&mut random).octets()), None);
     assert_eq!(rule(&Model::default().octets()), None);
 }
 
@@ -58,13 +60,13 @@ fn faults_are_worded_and_ordered() {
     fault(&table);
     table.operations[1].result = 0;
     fault(&table);
-    table.operations[1].code = 2;
+    table.operations[1].code = Code::Local(2);
     fault(&table);
     table.operations[2].flags = 2;
     fault(&table);
-    table.operations[2].code = 3;
+    table.operations[2].code = Code::Local(3);
     fault(&table);
-    table.errors[0] = second::model::ErrorRow { code: 5, parameter: 0xFF, optional: 1 };
+    table.errors[0] = second::model::ErrorRow { code: Code::Local(5), parameter: 0xFF, optional: 1 };
     fault(&table);
     table.errors[0].parameter = 4;
     fault(&table);
@@ -216,19 +218,23 @@ fn differences_are_found() {
 #[test]
 fn valid_tables_are_of_every_sort() {
     let mut random = Random::new(6);
+    let sort = |list: &str, code: Code| match code {
+        Code::Local(code) => format!("{list} code negative {}", code < 0),
+        Code::Name(_) => format!("{list} name"),
+    };
     let (mut sorts, mut types, mut sizes) = (BTreeSet::new(), BTreeSet::new(), BTreeSet::new());
     for _ in 0..600 {
         let model = Model::varied(&mut random);
         for row in &model.operations {
             sorts.extend([format!("class {}", row.class), format!("flags {}", row.flags)]);
-            sorts.insert(format!("operation code negative {}", row.code < 0));
+            sorts.insert(sort("operation", row.code));
             types.extend([row.argument, row.result]);
         }
         for row in &model.errors {
-            sorts.extend([format!("optional {}", row.optional), format!("error code negative {}", row.code < 0)]);
+            sorts.extend([format!("optional {}", row.optional), sort("error", row.code)]);
             types.insert(row.parameter);
         }
         sizes.insert([model.error_pairs.len(), model.child_pairs.len()].map(|size| size.min(2)));
     }
-    assert_eq!((sorts.len(), types.len(), sizes.len()), (5 + 4 + 2 + 2 + 2, 248, 9), "{sorts:?} {sizes:?}");
+    assert_eq!((sorts.len(), types.len(), sizes.len()), (5 + 8 + 3 + 2 + 3, 248, 9), "{sorts:?} {sizes:?}");
 }
