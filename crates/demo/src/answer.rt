@@ -1,4 +1,5 @@
 // What an end reads: the library's indication or refusal, in words.
+use crate::words::code_words;
 use crate::words::number;
 use crate::words::say;
 use apdu::Body;
@@ -6,6 +7,7 @@ use apdu::Number;
 use apdu::Span;
 use apdu::Value;
 use apdu::parse::octets_of;
+use codes::Code;
 use protocol::Indication;
 use protocol::Reception;
 use protocol::Refusal;
@@ -13,9 +15,9 @@ use text::out::decimal;
 use text::out::octets;
 use text::out::problem_name;
 
-fn invocation_words(id: u32, operation: u32, name: &[u8], x: &[u8], value: Value) {
+fn invocation_words(id: u32, operation: Code, name: &[u8], x: &[u8], value: Value) {
     number(b"invocation ", id);
-    number(b" of operation ", operation);
+    code_words(b" of operation ", operation);
     match value {
         Value::Absent => {
             say(b", no");
@@ -56,7 +58,7 @@ fn indication_words(x: &[u8], said: Indication) {
             ..
         } => {
             say(b"invoke: ");
-            invocation_words(id.0, code.0, b" argument", x, argument);
+            invocation_words(id.0, code, b" argument", x, argument);
         }
         Indication::Result {
             id,
@@ -64,7 +66,7 @@ fn indication_words(x: &[u8], said: Indication) {
             operation,
         } => {
             say(b"result: ");
-            invocation_words(id.0, operation.0, b" value", x, body_value(body));
+            invocation_words(id.0, operation, b" value", x, body_value(body));
         }
         Indication::Error {
             id,
@@ -72,9 +74,12 @@ fn indication_words(x: &[u8], said: Indication) {
             parameter,
             operation,
         } => {
-            number(b"error ", code.0);
+            code_words(b"error ", code);
             say(b": ");
-            invocation_words(id.0, operation.0, b" parameter", x, parameter);
+            invocation_words(id.0, operation, b" parameter", x, parameter);
+        }
+        Indication::InvokeRejected { id, problem } => {
+            reject_words(b"reject: ", Number::Of(id.0), 0x81, problem)
         }
         Indication::ResultRejected { id, problem } => {
             reject_words(b"reject: ", Number::Of(id.0), 0x82, problem)

@@ -9,6 +9,7 @@ use ber::header::Header;
 use ber::header::header_of;
 use ber::integer::Integer;
 use ber::integer::integer_of;
+use codes::Code;
 use protocol::Indication;
 use protocol::Reception;
 
@@ -84,11 +85,16 @@ pub(crate) fn recorded(mut day: Day, x: &[u8], reception: Reception) -> Day {
                 }
             },
             Indication::Error { code, .. } => {
-                if code.0 != 1 {
+                if !code.same(Code::Local(1)) {
                     return with_unknown(day);
                 }
                 say(b"no reading: below detection, and never a zero");
                 day.below = plus(day.below, 1);
+                day
+            }
+            Indication::InvokeRejected { .. } => {
+                say(b"no reading: the invocation is not understood");
+                day.unknown = plus(day.unknown, 1);
                 day
             }
             _ => with_unknown(day),

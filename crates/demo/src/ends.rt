@@ -10,6 +10,7 @@ use apdu::PeerLink;
 use apdu::Span;
 use apdu::parse::octets_of;
 use codes::Code;
+use codes::Name;
 use protocol::Invocation;
 use protocol::Outcome;
 use protocol::Requested;
@@ -32,6 +33,14 @@ const CONTROLLER: [u8; 44] = *b"\
     \x00\x00\x00\x07\x02\x02\x02\x02\
     \x00\x00\x00\x01\x00\x00\x00\x00\x00\x02\x00\x00\
     \x00\x00\x00\x00\x00\x00\x00\x01";
+
+// The kiosk's table in edition 2, with names last: operation 7 as before, and 2b0601, which has a name, reads a probe as well; error 1 is paired with both.
+const NAMED: [u8; 71] = *b"\
+    \xff\xff\x00\x02\x00\x02\x00\x18\x00\x01\x00\x28\x00\x02\x00\x2e\x00\x00\x00\x36\x00\x01\x00\x36\
+    \x00\x00\x00\x07\x02\x02\x02\x02\x00\x00\x00\x00\x02\x02\x02\x06\
+    \x00\x00\x00\x01\x00\x00\
+    \x00\x00\x00\x00\x00\x01\x00\x00\
+    \x03\x2b\x06\x01\x00\x00\x00\x00\x00\x00\x00\x00\x00\x00\x00\x00\x00";
 
 struct Apdu {
     octets: [u8; 32],
@@ -91,17 +100,17 @@ fn requested(words: &[u8], before: Apdu, out: [u8; 32], r: Requested) -> Apdu {
     }
 }
 
-// The kiosk invokes operation 7 with probe 3, and the controller receives it.
-pub(crate) fn ask(mut site: Site, id: u32) -> Site {
+// The kiosk invokes an operation with probe 3.
+fn invoke(mut site: Site, table: &[u8], id: u32, code: Code) -> Site {
     let mut out = [0u8; 32];
     let state = site.kiosk;
     let before = site.to_controller;
     let probe = b"\x02\x01\x03";
     let r = rose::invoke(
         state,
-        &KIOSK,
+        table,
         OwnId(id),
-        Code(7),
+        code,
         PeerLink::Absent,
         probe,
         &mut out,
@@ -110,7 +119,21 @@ pub(crate) fn ask(mut site: Site, id: u32) -> Site {
     let apdu = requested(b"   kiosk sends      ", before, out, r);
     site.kiosk = next;
     site.to_controller = apdu;
-    controller_reads(site)
+    site
+}
+
+// The kiosk invokes operation 7, and the controller receives it.
+pub(crate) fn ask(site: Site, id: u32) -> Site {
+    controller_reads(invoke(site, &KIOSK, id, Code::Local(7)))
+}
+
+// The kiosk invokes the operation that has a name, which its first table lacks.
+pub(crate) fn ask_too_early(site: Site, id: u32) -> Site {
+    invoke(site, &KIOSK, id, Code::Global(Name::of(b"\x2b\x06\x01")))
+}
+
+pub(crate) fn ask_by_name(site: Site, id: u32) -> Site {
+    invoke(site, &NAMED, id, Code::Global(Name::of(b"\x2b\x06\x01")))
 }
 
 // What the controller's request left: its new state, and the answer on the channel.
@@ -133,7 +156,14 @@ pub(crate) fn result(site: Site, id: u32, value: &[u8]) -> Site {
 pub(crate) fn error(site: Site, id: u32, code: u32) -> Site {
     let mut out = [0u8; 32];
     let state = site.controller;
-    let r = rose::error(state, &CONTROLLER, PeerId(id), Code(code), b"", &mut out);
+    let r = rose::error(
+        state,
+        &CONTROLLER,
+        PeerId(id),
+        Code::Local(code),
+        b"",
+        &mut out,
+    );
     answered(site, r, out)
 }
 
@@ -165,7 +195,7 @@ pub(crate) fn forget(mut site: Site, id: u32) -> Site {
 }
 
 // The kiosk receives what is on the channel, and records what the library says of it.
-pub(crate) fn kiosk_reads(mut site: Site) -> Site {
+fn read_with(mut site: Site, table: &[u8]) -> Site {
     let mut out = [0u8; 32];
     let state = site.kiosk;
     let day = site.day;
@@ -173,7 +203,7 @@ pub(crate) fn kiosk_reads(mut site: Site) -> Site {
     let apdu = site.to_kiosk;
     let arrived = apdu.octets;
     let x = octets_of(&arrived, apdu.span);
-    let r = rose::receive(state, &KIOSK, x, &mut out);
+    let r = rose::receive(state, table, x, &mut out);
     let next = r.state;
     let reception = r.reception;
     say(b"   kiosk reads       ");
@@ -186,6 +216,15 @@ pub(crate) fn kiosk_reads(mut site: Site) -> Site {
     site.day = day;
     site.to_controller = answer;
     site
+}
+
+pub(crate) fn kiosk_reads(site: Site) -> Site {
+    read_with(site, &KIOSK)
+}
+
+// The same with the table of edition 2.
+pub(crate) fn kiosk_reads_by_name(site: Site) -> Site {
+    read_with(site, &NAMED)
 }
 
 pub(crate) fn controller_reads(mut site: Site) -> Site {

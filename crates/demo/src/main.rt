@@ -8,10 +8,13 @@ use day::close;
 use day::with_unknown;
 use ends::Site;
 use ends::ask;
+use ends::ask_by_name;
+use ends::ask_too_early;
 use ends::controller_reads;
 use ends::error;
 use ends::forget;
 use ends::kiosk_reads;
+use ends::kiosk_reads_by_name;
 use ends::opened;
 use ends::other_make;
 use ends::result;
@@ -116,6 +119,25 @@ fn at_fault(mut site: Site) -> Site {
     given_up(site, 12)
 }
 
+// A result of an operation that has a name, 15 octets.
+const NAMED: [u8; 32] = *b"\
+    \xa2\x0d\x02\x01\x0d\x30\x08\x06\x03\x2b\x06\x01\x02\x01\x12\
+    \x00\x00\x00\x00\x00\x00\x00\x00\x00\x00\x00\x00\x00\x00\x00\x00\x00";
+
+fn named(mut site: Site) -> Site {
+    say(
+        b"\n10. An operation by name: a controller of another make has it, the first controller does not\n",
+    );
+    site = ask_too_early(site, 13);
+    say(b"   kiosk takes       a table of edition 2, which has the operation name 2b0601\n");
+    site = ask_by_name(site, 13);
+    site = other_make(site, NAMED, 15);
+    site = kiosk_reads_by_name(site);
+    site = ask_by_name(site, 14);
+    site = controller_reads(site);
+    kiosk_reads_by_name(site)
+}
+
 fn main() {
     say(b"A water kiosk asks a probe controller for chlorine readings; the channel can fail.\n");
     say(b"Operation 7 reads the probe that its argument names, in hundredths of a mg/l.\n");
@@ -129,6 +151,7 @@ fn main() {
     site = not_understood(site);
     site = indefinite(site);
     site = at_fault(site);
+    site = named(site);
     let day = site.day;
     close(day);
 }

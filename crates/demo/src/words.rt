@@ -1,4 +1,7 @@
-// A number behind words, and readings, on standard output.
+// A number or a code behind words, and readings, on standard output.
+use base::octets::between;
+use codes::Code;
+use codes::Name;
 use text::out::decimal;
 use text::out::words;
 
@@ -10,6 +13,26 @@ pub(crate) fn say(s: &[u8]) {
 pub(crate) fn number(s: &[u8], n: u32) {
     words(1, s);
     decimal(1, n as u64);
+}
+
+// A name in hexadecimal.
+fn name_words(name: Name) {
+    let mut digits = [0u8; 32];
+    let all = name.octets();
+    let end = text::octets(&mut digits, 0, between(&all, 0, name.length as usize));
+    words(1, b"name ");
+    text::print(1, &digits, end);
+}
+
+// A code, behind some words.
+pub(crate) fn code_words(s: &[u8], code: Code) {
+    match code {
+        Code::Local(n) => number(s, n),
+        Code::Global(name) => {
+            words(1, s);
+            name_words(name);
+        }
+    }
 }
 
 // Hundredths of a mg/l, as mg/l.

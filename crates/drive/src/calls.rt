@@ -8,6 +8,8 @@ use crate::ending::value_of;
 use crate::output::fill;
 use apdu::PeerLink;
 use apdu::Value;
+use base::octets::between;
+use base::octets::octet;
 use codes::Code;
 use codes::Name;
 use protocol::Invocation;
@@ -41,25 +43,15 @@ fn is_named(f: Frame) -> bool {
     (kind == 3 || kind == 5) && f.flag / 2 % 2 == 1
 }
 
-// How many octets a name has that a payload begins with, behind the octet that says so.
-fn name_size(payload: &[u8]) -> usize {
-    if payload.len() == 0 {
-        return 0;
-    }
-    let n = payload[0] as usize;
-    if n < payload.len() {
-        return n;
-    }
-    payload.len() - 1
+// Where the name ends that a payload begins with, behind the octet that says how long it is.
+fn name_end(payload: &[u8]) -> usize {
+    (octet(payload, 0) as usize) + 1
 }
 
 // The code that a frame says: its name, or its number.
 fn code_of(f: Frame, payload: &[u8]) -> Code {
     if is_named(f) {
-        let n = name_size(payload);
-        if n < payload.len() {
-            return Code::Global(Name::of(&payload[1..n + 1]));
-        }
+        return Code::Global(Name::of(between(payload, 1, name_end(payload))));
     }
     Code::Local(f.code)
 }
@@ -67,10 +59,7 @@ fn code_of(f: Frame, payload: &[u8]) -> Code {
 // The value that a frame says: its payload, behind the name if there is one.
 fn value_given(f: Frame, payload: &[u8]) -> &[u8] {
     if is_named(f) {
-        let n = name_size(payload);
-        if n < payload.len() {
-            return &payload[n + 1..];
-        }
+        return between(payload, name_end(payload), payload.len());
     }
     payload
 }

@@ -12,6 +12,7 @@ mod side;
 
 use arguments::Asked;
 use arguments::arguments;
+use base::octets::between;
 use calls::Frame;
 use calls::call;
 use complaint::argument_refused;
@@ -46,14 +47,14 @@ fn ended(mut s: Session) -> Session {
 // The state of an image, of 516 octets where no code is a name, else of 1,348; another length leaves the state as it was.
 fn imaged(payload: &[u8], mut s: Session) -> Session {
     if payload.len() == 516 {
-        let own = local_image(payload, 0);
-        let peer = local_image(payload, 258);
+        let own = local_image(between(payload, 0, 258));
+        let peer = local_image(between(payload, 258, 516));
         let state = State { own, peer };
         s.state = state;
     }
     if payload.len() == 1348 {
-        let own = side_image(payload, 0);
-        let peer = side_image(payload, 674);
+        let own = side_image(between(payload, 0, 674));
+        let peer = side_image(between(payload, 674, 1348));
         let state = State { own, peer };
         s.state = state;
     }

@@ -85,17 +85,15 @@ pub(crate) fn side_line<'a>(
 }
 
 // A side of a state image without names: a count, then 32 places of id and code.
-pub(crate) fn local_image(s: &[u8], from: usize) -> Records {
+pub(crate) fn local_image(s: &[u8]) -> Records {
     let mut ids = [0u32; State::RECORDS];
     let mut highs = [0u64; State::RECORDS];
     for i in 0..State::RECORDS {
-        if from < 1000 {
-            ids[i] = word(s, from + 2 + i * 8);
-            highs[i] = (word(s, from + 6 + i * 8) as u64) * 4294967296;
-        }
+        ids[i] = word(s, 2 + i * 8);
+        highs[i] = (word(s, 6 + i * 8) as u64) * 4294967296;
     }
     Records {
-        count: pair_at(s, from),
+        count: pair_at(s, 0),
         ids,
         lengths: [0; State::RECORDS],
         highs,
@@ -104,22 +102,19 @@ pub(crate) fn local_image(s: &[u8], from: usize) -> Records {
 }
 
 // A side of a state image: a count, then 32 places of id, length and 16 octets.
-pub(crate) fn side_image(s: &[u8], from: usize) -> Records {
+pub(crate) fn side_image(s: &[u8]) -> Records {
     let mut ids = [0u32; State::RECORDS];
     let mut lengths = [0u8; State::RECORDS];
     let mut highs = [0u64; State::RECORDS];
     let mut lows = [0u64; State::RECORDS];
     for i in 0..State::RECORDS {
-        if from < 1000 {
-            let at = from + 2 + i * 21;
-            ids[i] = word(s, at);
-            lengths[i] = octet_at(s, at + 4);
-            highs[i] = eight(s, at + 5);
-            lows[i] = eight(s, at + 13);
-        }
+        ids[i] = word(s, 2 + i * 21);
+        lengths[i] = octet_at(s, 6 + i * 21);
+        highs[i] = eight(s, 7 + i * 21);
+        lows[i] = eight(s, 15 + i * 21);
     }
     Records {
-        count: pair_at(s, from),
+        count: pair_at(s, 0),
         ids,
         lengths,
         highs,

@@ -22,7 +22,7 @@ fn answer(state: State, id: PeerId, octets: &[u8], argument: Value, out: &mut [u
     };
     match probe {
         1 => rose::result(state, &TABLE, id, b"\x02\x01\x0c", out),
-        2 => rose::error(state, &TABLE, id, Code(1), b"", out),
+        2 => rose::error(state, &TABLE, id, Code::Local(1), b"", out),
         3 => rose::result(state, &TABLE, id, b"", out),
         _ => rose::reject(state, &TABLE, id, 2, out),
     }

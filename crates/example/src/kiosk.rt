@@ -19,7 +19,15 @@ use records::State;
 
 // Asks for a reading of a probe: keep the state, and send the first `written` octets of `out`; a refused request wrote none.
 pub(crate) fn ask(state: State, id: OwnId, probe: &[u8], out: &mut [u8]) -> Requested {
-    rose::invoke(state, &TABLE, id, Code(7), PeerLink::Absent, probe, out)
+    rose::invoke(
+        state,
+        &TABLE,
+        id,
+        Code::Local(7),
+        PeerLink::Absent,
+        probe,
+        out,
+    )
 }
 
 // The number that a value says: the value is a span of the received octets, here 02 01 0c, and its contents are 0c.

@@ -7,6 +7,9 @@ use apdu::OwnLink;
 use apdu::Span;
 use apdu::Value;
 use apdu::parse::octets_of;
+use base::octets::between;
+use codes::Code;
+use codes::Name;
 use text::out::decimal;
 use text::out::problem_name;
 use text::out::signed_number;
@@ -24,12 +27,25 @@ fn number_line(name: &[u8], bits: u32) {
     words(1, b"\n");
 }
 
-fn code_line(name: &[u8], code: CodeField) {
-    match code {
-        CodeField::Local(c) => number_line(name, c.0),
+fn name_line(name: &[u8], code: Name) {
+    let mut digits = [0u8; 32];
+    let all = code.octets();
+    let end = text::octets(&mut digits, 0, between(&all, 0, code.length as usize));
+    words(1, name);
+    words(1, b"name ");
+    text::print(1, &digits, end);
+    words(1, b"\n");
+}
+
+fn code_line(name: &[u8], field: CodeField) {
+    match field {
+        CodeField::Is(code) => match code {
+            Code::Local(bits) => number_line(name, bits),
+            Code::Global(global) => name_line(name, global),
+        },
         CodeField::Other => {
             words(1, name);
-            let why = b"an object identifier, or over four octets: equals no table's code\n";
+            let why = b"over four octets, or a name of over 16: equals no table's code\n";
             words(1, why);
         }
     }

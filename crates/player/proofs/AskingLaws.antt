@@ -12,12 +12,12 @@ use denote.Enum.Declared.{tagOf}
 use borrow.Author.Tests.{ne-eqb}
 use Rattle.base.proofs.Keys.{no-key}
 use Rattle.base.specs.Octets.{part}
-use Rattle.records.specs.declared.Code.{Code}
+use Rattle.codes.specs.declared.Code.{Code}
 use Rattle.records.specs.declared.OwnId.{OwnId}
 use Rattle.records.specs.declared.PeerId.{PeerId}
 use Rattle.records.specs.declared.State.{State}
 use Rattle.records.specs.Limits.{octets}
-use Rattle.apdu.specs.declared.CodeField.the-variants.{Local, Other}
+use Rattle.apdu.specs.declared.CodeField.the-variants.{Is, Other}
 use Rattle.apdu.specs.declared.OwnLink.{OwnLink}
 use Rattle.apdu.specs.declared.PeerLink.{PeerLink}
 use Rattle.apdu.specs.declared.Value.{Value}
@@ -92,7 +92,7 @@ module _ (T : List ℕ) (s : State) (x : List ℕ) (o : Option Call) (r : Reques
 
 -- what was read, p, as a request
 module _ (x : List ℕ) (p : Parsed) (said : readParsed x p ≡ parse x) where
-  pub invoke-request : (i : PeerId) (l : OwnLink) (c : Code) (v : Value) (k : PeerLink) (g : List ℕ) (n : ℕ) → p ≡ Invoke i l (Local c) v → readPeerLink k ≡ readOwnLink l → g ≡ valueOctets (readValue x v) → n ≡ octets
+  pub invoke-request : (i : PeerId) (l : OwnLink) (c : Code) (v : Value) (k : PeerLink) (g : List ℕ) (n : ℕ) → p ≡ Invoke i l (Is c) v → readPeerLink k ≡ readOwnLink l → g ≡ valueOctets (readValue x v) → n ≡ octets
       → requestOf (parse x) ≡ some (invoke (i .0) c (readPeerLink k) g n)
   unfolding readParsed requestOf
   invoke-request i l c v k g n e kl gv room = rw (← said, e) (rw (kl, gv, room) refl)
@@ -101,7 +101,7 @@ module _ (x : List ℕ) (p : Parsed) (said : readParsed x p ≡ parse x) where
   unfolding readParsed requestOf
   result-request i b v g n e bv gv room = rw (← said, e) (rw (gv, bv, room) refl)
 
-  pub error-request : (i : OwnId) (c : Code) (v : Value) (g : List ℕ) (n : ℕ) → p ≡ Error i (Local c) v → g ≡ valueOctets (readValue x v) → n ≡ octets → requestOf (parse x) ≡ some (error (i .0) c g n)
+  pub error-request : (i : OwnId) (c : Code) (v : Value) (g : List ℕ) (n : ℕ) → p ≡ Error i (Is c) v → g ≡ valueOctets (readValue x v) → n ≡ octets → requestOf (parse x) ≡ some (error (i .0) c g n)
   unfolding readParsed requestOf
   error-request i c v g n e gv room = rw (← said, e) (rw (gv, room) refl)
 

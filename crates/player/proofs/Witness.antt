@@ -9,14 +9,17 @@ use Rattle.base.specs.Lists.{nonEmpty}
 use Rattle.ber.specs.Element.{closes, foundBehind, behindFirst, elementsIn, filledBehind, closedBehind, made, elementWith, elementOf, sizeIn, size, fills, wellFormed, findingWith, findingIn, frameWith, frameOf, elementOctets}
 use Rattle.ber.specs.Integer.{signOf, pattern, integerOf, fitsOctets, octetCount, integerOctets}
 use Rattle.base.specs.Count.{every, any}
+use Rattle.codes.specs.Code.{nameOctets, nameContents, nameOf, sameName, nameForm, nameRight, sameCode, codeRight}
 use Rattle.codes.specs.Count.{seek}
-use Rattle.optable.specs.Read.{count, start, entryStart, octetAt, codeAt, hasCode, operationAt, errorAt, firstAt, secondAt}
-use Rattle.optable.specs.Validity.{withinLimit, behind, laidOut, ruleRight, resultRight, operationRight, errorRight, pairBelow, pairRight, allowed, above, rises, fieldsRight, entryRight, partRight, valid}
+use Rattle.codes.specs.Search.{keyHere, keyIn}
+use Rattle.records.specs.Records.{stored, isLocal, codeOf as codeStored}
+use Rattle.optable.specs.Read.{edition, count, start, entryStart, octetAt, keyAt, nameHere, nameAt, codeOf as codeHeld, codeAt, idempotentAt, hasCode, operationAt, errorAt, firstAt, secondAt}
+use Rattle.optable.specs.Validity.{withinLimit, behind, editionRight, filled, laidOut, ruleRight, resultRight, operationRight, errorRight, pairBelow, pairRight, allowed, above, rises, sameNames, newName, standsRight, keyRight, fieldsRight, entryRight, partRight, valid}
 use Rattle.optable.specs.Lookup.{find, operationIn, operationOf, errorIn, errorOf, joins, joined, parentAt, hasChild}
 use Rattle.optable.specs.Value.{valueRight}
 use Rattle.apdu.specs.Field.{fieldsWith, fieldsBy, fieldsIn}
-use Rattle.apdu.specs.Parse.{numberOf, numberUnder, isCode, codeOf, codedWith, codedOf, linkedWith, linkedOf, invokeWith, invokeBehind, resultWith, resultBehind, mostProblem, isProblem, idAllowed, rejectWith, rejectBehind, rejectOf, behindId, withId, byKind, parseAt, parse, errorBehind}
-use Rattle.apdu.specs.Encode.{linkedField, rejectedField, valueField, bodyField, encodeInvoke, encodeResult, encodeError, encodeReject}
+use Rattle.apdu.specs.Parse.{numberOf, numberUnder, isCode, localCode, nameCode, codeOf, codedWith, codedOf, linkedWith, linkedOf, invokeWith, invokeBehind, resultWith, resultBehind, mostProblem, isProblem, idAllowed, rejectWith, rejectBehind, rejectOf, behindId, withId, byKind, parseAt, parse, errorBehind}
+use Rattle.apdu.specs.Encode.{codeField, linkedField, rejectedField, valueField, bodyField, encodeInvoke, encodeResult, encodeError, encodeReject}
 use Rattle.protocol.specs.Check.{usable, valueFinding, valueWell, withinLimits}
 use Rattle.protocol.specs.Receive.{fault, invokeChecks, resultChecks, errorChecks, receiveApdu}
 use Rattle.protocol.specs.Perform.{laterChecks, done, perform}
@@ -29,6 +32,14 @@ abbrev table : List ℕ
 table =
     0x00 ∷ 0x01 ∷ 0x00 ∷ 0x10 ∷ 0x00 ∷ 0x00 ∷ 0x00 ∷ 0x18 ∷ 0x00 ∷ 0x00 ∷ 0x00 ∷ 0x18 ∷ 0x00 ∷ 0x00 ∷ 0x00 ∷ 0x18
     ∷ 0x00 ∷ 0x00 ∷ 0x00 ∷ 0x07 ∷ 0x02 ∷ 0x02 ∷ 0x02 ∷ 0x02
+    ∷ []
+
+-- the same of edition 2, its code the name 2B 06 01
+abbrev namedTable : List ℕ
+namedTable =
+    0xFF ∷ 0xFF ∷ 0x00 ∷ 0x02 ∷ 0x00 ∷ 0x01 ∷ 0x00 ∷ 0x18 ∷ 0x00 ∷ 0x00 ∷ 0x00 ∷ 0x20 ∷ 0x00 ∷ 0x00 ∷ 0x00 ∷ 0x20 ∷ 0x00 ∷ 0x00 ∷ 0x00 ∷ 0x20 ∷ 0x00 ∷ 0x01 ∷ 0x00 ∷ 0x20
+    ∷ 0x00 ∷ 0x00 ∷ 0x00 ∷ 0x00 ∷ 0x02 ∷ 0x02 ∷ 0x02 ∷ 0x06
+    ∷ 0x03 ∷ 0x2B ∷ 0x06 ∷ 0x01 ∷ 0x00 ∷ 0x00 ∷ 0x00 ∷ 0x00 ∷ 0x00 ∷ 0x00 ∷ 0x00 ∷ 0x00 ∷ 0x00 ∷ 0x00 ∷ 0x00 ∷ 0x00 ∷ 0x00
     ∷ []
 
 -- ---- captures of fewer than 256 octets, laid out of entries
@@ -78,6 +89,19 @@ asksOther = 0xA1 ∷ 0x06 ∷ 0x02 ∷ 0x01 ∷ 0x05 ∷ 0x02 ∷ 0x01 ∷ 0x09 
 abbrev refusesOther : List ℕ
 refusesOther = 0xA4 ∷ 0x06 ∷ 0x02 ∷ 0x01 ∷ 0x05 ∷ 0x81 ∷ 0x01 ∷ 0x01 ∷ []
 
+-- an invocation by name, its result, and one by a name of 17 octets
+abbrev asksNamed : List ℕ
+asksNamed = 0xA1 ∷ 0x0B ∷ 0x02 ∷ 0x01 ∷ 0x01 ∷ 0x06 ∷ 0x03 ∷ 0x2B ∷ 0x06 ∷ 0x01 ∷ 0x02 ∷ 0x01 ∷ 0x03 ∷ []
+
+abbrev answersNamed : List ℕ
+answersNamed = 0xA2 ∷ 0x0D ∷ 0x02 ∷ 0x01 ∷ 0x01 ∷ 0x30 ∷ 0x08 ∷ 0x06 ∷ 0x03 ∷ 0x2B ∷ 0x06 ∷ 0x01 ∷ 0x02 ∷ 0x01 ∷ 0x0C ∷ []
+
+abbrev asksLong : List ℕ
+asksLong =
+    0xA1 ∷ 0x19 ∷ 0x02 ∷ 0x01 ∷ 0x01 ∷ 0x06 ∷ 0x11 ∷ 0x2B ∷ 0x06 ∷ 0x01 ∷ 0x01 ∷ 0x01 ∷ 0x01 ∷ 0x01 ∷ 0x01 ∷ 0x01 ∷ 0x01 ∷ 0x01 ∷ 0x01 ∷ 0x01 ∷ 0x01 ∷ 0x01 ∷ 0x01 ∷ 0x01
+    ∷ 0x02 ∷ 0x01 ∷ 0x03
+    ∷ []
+
 abbrev forgets : ℕ → List ℕ
 forgets side = side ∷ 0x00 ∷ 0x00 ∷ 0x00 ∷ 0x01 ∷ []
 
@@ -106,7 +130,13 @@ days =
 abbrev verdicts : List Verdict
 verdicts = agree 0 ∷ agree 4 ∷ agree 2 ∷ differsAt 3 ∷ differsAt 3 ∷ differsAt 2 ∷ agree 2 ∷ differsAt 2 ∷ differsAt 1 ∷ refusedWith 20 ∷ []
 
--- the days, and a wrong table with a malformed capture: 1 before 20
-pub replayed : (map (replay table) days ≡ verdicts) × (replay [] [] ≡ refusedWith 1)
-unfolding pairBelow pairRight resultRight numberFrom digits continued oneOf highTag highTagOctets identifierOctets lengthOf lengthCount lengthOctets headerWith headerOf shortest parts contentRule constructed closes foundBehind behindFirst elementsIn filledBehind closedBehind made elementWith elementOf sizeIn size fills wellFormed findingWith findingIn frameWith frameOf elementOctets signOf pattern integerOf fitsOctets octetCount integerOctets every any seek count start entryStart octetAt codeAt hasCode operationAt errorAt firstAt secondAt withinLimit behind laidOut ruleRight operationRight errorRight allowed above rises fieldsRight entryRight partRight valid find operationIn operationOf errorIn errorOf joins joined parentAt hasChild valueRight fieldsWith fieldsBy fieldsIn numberOf numberUnder isCode codeOf codedWith codedOf linkedWith linkedOf invokeWith invokeBehind resultWith resultBehind errorBehind mostProblem isProblem idAllowed rejectWith rejectBehind rejectOf behindId withId byKind parseAt parse nonEmpty linkedField rejectedField valueField bodyField encodeInvoke encodeResult encodeError encodeReject usable valueFinding valueWell withinLimits fault invokeChecks resultChecks errorChecks receiveApdu laterChecks done perform captureCount dataOffset kindRight zeroRight sizeFits sizeRight captureEntryRight headed dataEnd placed endToEnd captureValid entryAt requestOf forgetOf sameOctets agreed asked playedAs playOne play replay
-replayed = (refl, refl)
+abbrev namedDays : List (List ℕ)
+namedDays =
+    laid (sent asksNamed ∷ received answersNamed ∷ [])
+    ∷ laid (sent asksLong ∷ [])
+    ∷ []
+
+-- the days; those with names; one whose name the table lacks; and a wrong table with a malformed capture: 1 before 20
+pub replayed : (map (replay table) days ≡ verdicts) × (map (replay namedTable) namedDays ≡ agree 2 ∷ differsAt 0 ∷ []) × (replay table (laid (sent asksNamed ∷ [])) ≡ differsAt 0) × (replay [] [] ≡ refusedWith 1)
+unfolding nameOctets nameContents nameOf sameName nameForm nameRight sameCode codeRight keyHere keyIn stored isLocal codeStored edition keyAt nameHere nameAt codeHeld idempotentAt editionRight filled sameNames newName standsRight keyRight localCode nameCode codeField pairBelow pairRight resultRight numberFrom digits continued oneOf highTag highTagOctets identifierOctets lengthOf lengthCount lengthOctets headerWith headerOf shortest parts contentRule constructed closes foundBehind behindFirst elementsIn filledBehind closedBehind made elementWith elementOf sizeIn size fills wellFormed findingWith findingIn frameWith frameOf elementOctets signOf pattern integerOf fitsOctets octetCount integerOctets every any seek count start entryStart octetAt codeAt hasCode operationAt errorAt firstAt secondAt withinLimit behind laidOut ruleRight operationRight errorRight allowed above rises fieldsRight entryRight partRight valid find operationIn operationOf errorIn errorOf joins joined parentAt hasChild valueRight fieldsWith fieldsBy fieldsIn numberOf numberUnder isCode codeOf codedWith codedOf linkedWith linkedOf invokeWith invokeBehind resultWith resultBehind errorBehind mostProblem isProblem idAllowed rejectWith rejectBehind rejectOf behindId withId byKind parseAt parse nonEmpty linkedField rejectedField valueField bodyField encodeInvoke encodeResult encodeError encodeReject usable valueFinding valueWell withinLimits fault invokeChecks resultChecks errorChecks receiveApdu laterChecks done perform captureCount dataOffset kindRight zeroRight sizeFits sizeRight captureEntryRight headed dataEnd placed endToEnd captureValid entryAt requestOf forgetOf sameOctets agreed asked playedAs playOne play replay
+replayed = (refl, refl, refl, refl)

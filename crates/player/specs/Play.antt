@@ -9,7 +9,7 @@ use Rattle.records.specs.State.{fresh}
 use Rattle.records.specs.Limits.{octets}
 use Rattle.optable.specs.Validity.{valid}
 use Rattle.apdu.specs.declared.Number.the-variants.{Of, Absent}
-use Rattle.apdu.specs.declared.CodeField.the-variants.{Local, Other}
+use Rattle.apdu.specs.declared.CodeField.the-variants.{Is, Other}
 use Rattle.apdu.specs.Field.{Part}
 use Rattle.apdu.specs.Parse.{bodyValue, Apdu, badlyStructured, unrecognized, mistyped, parse, invoke as Invoke, result as Result, error as Error, reject as Reject}
 use Rattle.protocol.specs.Call.{own, peer, Call, receive, invoke, result, error, reject, forget, Answer, accepted, refused, stateAfter, writtenBy}
@@ -26,15 +26,15 @@ abbrev pub valueOctets : Option Part → List ℕ
 valueOctets none = []
 valueOctets (some v) = v .octets
 
--- the request that would write a sent APDU: a result's code is no argument of it, a Reject is a user's only with 81 and an id; what no request can write fits no call
+-- the request that would write a sent APDU: a result's code is no argument of it, a Reject is a user's only with 81 and an id; what no request can write, as a code of over four octets or a name of over 16, fits no call
 unfoldable pub requestOf : Apdu → Option Call
 requestOf (badlyStructured p) = none
 requestOf unrecognized = none
 requestOf (mistyped i) = none
-requestOf (Invoke i l (Local c) v) = some (invoke i c l (valueOctets v) octets)
+requestOf (Invoke i l (Is c) v) = some (invoke i c l (valueOctets v) octets)
 requestOf (Invoke i l Other v) = none
 requestOf (Result i b) = some (result i (valueOctets (bodyValue b)) octets)
-requestOf (Error i (Local e) v) = some (error i e (valueOctets v) octets)
+requestOf (Error i (Is e) v) = some (error i e (valueOctets v) octets)
 requestOf (Error i Other v) = none
 requestOf (Reject Absent kind p) = none
 requestOf (Reject (Of i) kind p) = cond (eqb kind 0x81) (some (reject i p octets)) none

@@ -86,7 +86,7 @@ pub(crate) fn asked(table: &[u8], state: State, x: &[u8], out: &mut [u8]) -> Req
             code,
             value,
         } => {
-            let CodeField::Local(operation) = code else {
+            let CodeField::Is(operation) = code else {
                 return unfit(state);
             };
             let link = peer_link(linked);
@@ -98,7 +98,7 @@ pub(crate) fn asked(table: &[u8], state: State, x: &[u8], out: &mut [u8]) -> Req
             rose::result(state, table, PeerId(id.0), given, out)
         }
         Parsed::Error { id, code, value } => {
-            let CodeField::Local(error) = code else {
+            let CodeField::Is(error) = code else {
                 return unfit(state);
             };
             let given = value_octets(x, value);

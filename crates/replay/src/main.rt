@@ -69,7 +69,7 @@ fn main() {
     if os::arg_count() < 3 {
         complain(b"replay: name the files of the table and of the capture: replay TABLE CAPTURE\n");
     }
-    let mut table = io::buffer();
+    let mut table = io::large_buffer();
     let mut capture = io::large_buffer();
     let t = size_of_argument(1, &mut table);
     let c = size_of_argument(2, &mut capture);

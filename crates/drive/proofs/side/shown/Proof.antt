@@ -1,17 +1,16 @@
 -- The invariant: a place is there. The measure: places left.
-use Prim.Native.Nat.{_≤_}
 use borrow.Author.Needs.{needs}
+use Prim.Native.Nat.{_≤_}
 use Rattle.drive.proofs.side.shown.Statement.{statement}
 use Rattle.drive.proofs.side.shown.Tie as tie
 
 abbrev Inv-loop : tie.InvT-loop
-Inv-loop count ids codes n₀ n = n ≤ 32
+Inv-loop count ids lengths highs lows n₀ n = n ≤ 32
 
 abbrev μ-loop : tie.MeasureT-loop
-μ-loop count ids codes n₀ n = n
+μ-loop count ids lengths highs lows n₀ n = n
 
 pub shown-spec : {M : Type 1} → statement M
 shown-spec =
     tie.close
-    (tie.spec Inv-loop μ-loop (λ c. search needs) (λ c. search needs) (λ c. search needs) (λ c. search needs) (λ c. search needs)
-    (λ c. search needs) (λ c. search needs) (λ c. search needs) (λ c. search needs) (λ c. search needs) (λ c. search needs) (λ c. search needs))
+    (tie.spec Inv-loop μ-loop (λ c. search needs) (λ c. search needs) (λ c. search needs) (λ c. search needs) (λ c. search needs) (λ c. search needs) (λ c. search needs) (λ c. search needs) (λ c. search needs) (λ c. search needs) (λ c. search needs) (λ c. search needs) (λ c κs. search needs) (λ c. search needs) (λ c. search needs) (λ c. search needs) (λ c. search needs) (λ c. search needs))

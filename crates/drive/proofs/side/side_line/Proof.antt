@@ -1,20 +1,18 @@
 -- The invariant: the length of the line stays. The measure: places left.
-use mathlib.Core.Path.{_≡_}
-use Prim.Native.Nat.{_-_, _≤_}
-use lib.ListN.{length}
 use borrow.Author.Needs.{needs}
+use lib.ListN.{length}
+use Prim.Native.Nat.{_-_, _≤_}
+use mathlib.Core.Path.{_≡_}
 use Rattle.drive.proofs.side.side_line.Statement.{statement}
 use Rattle.drive.proofs.side.side_line.Tie as tie
 
 abbrev Inv-loop : tie.InvT-loop
-Inv-loop line₀ at count ids codes n k₀ i₀ line k i = (i ≤ 32) × (length line ≡ length line₀)
+Inv-loop line₀ at count ids lengths highs lows n k₀ i₀ line k i = (i ≤ 32) × (length line ≡ length line₀)
 
 abbrev μ-loop : tie.MeasureT-loop
-μ-loop line₀ at count ids codes n k₀ i₀ line k i = 32 - i
+μ-loop line₀ at count ids lengths highs lows n k₀ i₀ line k i = 32 - i
 
 pub side-line-spec : {M : Type 1} → statement M
 side-line-spec =
     tie.close
-    (tie.spec Inv-loop μ-loop (λ c κs. search needs) (λ c κs. search needs) (λ c. search needs) (λ c. search needs) (λ c. search needs)
-    (λ c. search needs) (λ c. search needs) (λ c κs. search needs) (λ c. search needs) (λ c. search needs) (λ c. search needs) (λ c. search needs)
-    (λ c. search needs))
+    (tie.spec Inv-loop μ-loop (λ c κs. search needs) (λ c κs. search needs) (λ c. search needs) (λ c. search needs) (λ c. search needs) (λ c. search needs) (λ c. search needs) (λ c. search needs) (λ c. search needs) (λ c. search needs) (λ c κs. search needs) (λ c. search needs) (λ c. search needs) (λ c. search needs) (λ c. search needs) (λ c. search needs))

@@ -1,6 +1,6 @@
 -- Each APDU that can be a request is a law, and so is what can be none.
 use mathlib.Core.Path.{_≡_}
-use Rattle.apdu.specs.declared.CodeField.the-variants.{Local}
+use Rattle.apdu.specs.declared.CodeField.the-variants.{Is}
 use Rattle.apdu.specs.declared.Parsed.the-variants.{Invoke}
 use Rattle.player.proofs.AskingLaws.{asks, asks-nothing, invoke-request, result-request, error-request, reject-request, other-invoke, other-error, reads-no-request}
 use borrow.Author.Needs.{needs}
@@ -18,7 +18,7 @@ returns-2 c =
     asks-nothing _ _ _ _ _ _ (other-error _ _ (said .before .before .parse .ensures) (g .0) (g .1 .1 .0) (cc)) (c .unfit2 .ensures _ _)
 
 is-invoke : (a : tie.After-known-told2)
-    → a .before .before .before .before .before .before .parse .result ≡ Invoke (a .before .before .before .before .said .given .0 .0) (a .before .before .before .before .said .given .0 .1 .0) (Local (a .before .code .given .0 .0)) (a .before .before .before .before .said .given .0 .1 .1 .1 .0)
+    → a .before .before .before .before .before .before .parse .result ≡ Invoke (a .before .before .before .before .said .given .0 .0) (a .before .before .before .before .said .given .0 .1 .0) (Is (a .before .code .given .0 .0)) (a .before .before .before .before .said .given .0 .1 .1 .1 .0)
 is-invoke a = cc
 
 returns-3 : tie.Need-returns-3
