@@ -39,9 +39,23 @@ def table(operations, errors=(), pairs=(), children=()):
     return header + b"".join(parts)
 
 
+def named_table(names, *entries):
+    """The same of edition 2; an operation's code is a name's index where its flags have 4, an error's where they have 2."""
+    first = table(*entries)
+    moved = b"".join(struct.pack(">HH", count, offset + 8) for count, offset in struct.iter_unpack(">HH", first[:16]))
+    last = b"".join(struct.pack(">B16s", len(name), name) for name in names)
+    return struct.pack(">HH", 65535, 2) + moved + struct.pack(">HH", len(names), len(first) + 8) + first[16:] + last
+
+
 def state(own=(), peer=()):
     return b"".join(struct.pack(">H", len(side)) + b"".join(struct.pack(">ii", *record) for record in side) + bytes(8 * (32 - len(side)))
                     for side in (own, peer))
+
+
+def named_state(own=(), peer=()):
+    """The same with names for codes, 1,348 octets."""
+    return b"".join(struct.pack(">H", len(side)) + b"".join(struct.pack(">iB16s", number, len(name), name) for number, name in side)
+                    + bytes(21 * (32 - len(side))) for side in (own, peer))
 
 
 def element(identifier, contents):
@@ -82,6 +96,11 @@ P3 = bytes.fromhex("A306020105020101")
 P4 = bytes.fromhex("A203020105")
 ONE = state(own=[(5, 7)])
 ASKED = state(peer=[(5, 7)])
+NAME = bytes.fromhex("2B0601")
+NAMED = named_table([NAME], [(0, 2, 2, 2, 4)], [(1, 0, 0)], [(0, 0)])
+NAMES = [bytes([0x2B, i]) + bytes(range(1, 15)) for i in range(128)]
+FULL_NAMED = named_table(NAMES, [(i, 2, 2, 2, 7) for i in range(64)], [(i + 64, 2, 3) for i in range(64)],
+                         [(i // 4, i % 4 * 16) for i in range(256)], [(i // 4, i % 4 * 16) for i in range(256)])
 
 
 def cases():
@@ -100,6 +119,12 @@ def cases():
     records = [(i, i - 32) for i in range(32)]
     answer = bytes.fromhex("A20B02011F30060201FF02010C")
     yield case("32 + 32 records, full table: receive a result", FULL, state(own=records, peer=records), frame(RECEIVE, answer, 11))
+    yield case("by name: invoke", NAMED, named_state(own=[(4, NAME)]), frame(INVOKE, b"\x03" + NAME + b"\x02\x01\x03", 64, 5, detail=2))
+    yield case("by name: receive a result", NAMED, named_state(own=[(5, NAME)]),
+               frame(RECEIVE, element(0xA2, b"\x02\x01\x05" + element(0x30, element(6, NAME) + b"\x02\x01\x00")), 11))
+    named = [(i, NAMES[i]) for i in range(32)]
+    yield case("by name, 32 + 32 records, full table: receive a result", FULL_NAMED, named_state(own=named, peer=named),
+               frame(RECEIVE, element(0xA2, b"\x02\x01\x1F" + element(0x30, element(6, NAMES[31]) + b"\x02\x01\x0C")), 11))
 
 
 def capture(entries):

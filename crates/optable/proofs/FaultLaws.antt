@@ -6,7 +6,7 @@ use mathlib.Core.Bool.{Bool, true, false, not, cond, _&&_}
 use mathlib.Core.List.{List}
 use lib.ListN.{length}
 use lib.Dec.{eqb, leb, ltb}
-use borrow.Author.Tests.{leb-false}
+use borrow.Author.Tests.{leb-false, le-leb, lt-leb}
 use Rattle.base.proofs.Tests.{cond-elim, cond-true, cond-false, and-false-right, test-right, last-right, both-right}
 use Rattle.codes.specs.declared.Key.{Key}
 use Rattle.codes.specs.declared.Form.{Form}
@@ -23,7 +23,7 @@ use Rattle.optable.specs.declared.Fault.the-variants.{Nothing, UnknownEd
 use Rattle.base.specs.Count.{every}
 use Rattle.codes.specs.Count.{seek}
 use Rattle.optable.specs.Read.{edition, headerOf, count, start, keyAt, nameAt, classAt, flagsAt, argumentAt, resultAt, flagAt, parameterAt, firstAt, secondAt, secondPart}
-use Rattle.optable.specs.Validity.{withinLimit, behind, editionRight, filled, laidOut, ruleRight, resultRight, operationFlags, operationRight, errorFlags, errorRight, keyRight, allowed, pairRight, fieldsRight, standsRight, entryRight, partRight, valid}
+use Rattle.optable.specs.Validity.{limitOf, withinLimit, behind, editionRight, filled, laidOut, ruleRight, resultRight, operationFlags, operationRight, errorFlags, errorRight, keyRight, allowed, pairRight, fieldsRight, standsRight, entryRight, partRight, valid}
 use Rattle.optable.specs.Fault.{unbroken, needs, ruleBreach, operationBreach, errorBreach, keyBreach, formBreach, pairBreach, fieldsBreach, standBreach, entryBreach, firstWrong, entryFault, partFault, endFault, layoutFault, nothing, firstOf, firstFault}
 use Rattle.optable.proofs.LayoutLaws.{header-missing}
 use Rattle.codes.proofs.CountLaws.{seek-found, seek-passed, seek-ended, seek-every}
@@ -174,13 +174,21 @@ module _ (t : List ℕ) (k : Part) where
 
   -- ---- a part, and the whole
 
-  pub part-too-long : withinLimit t k ≡ false → Count k ≡ partFault t k
-  unfolding partFault
-  part-too-long e = cond-false _ _ e
+  module _ {n m : ℕ} (e : n ≡ count t k) (l : m ≡ limitOf k) where
+    pub part-too-long : m < n → Count k ≡ partFault t k
+    unfolding partFault withinLimit
+    part-too-long h =
+        let x : limitOf k < count t k = omega arith in
+        cond-false _ _ (lt-leb (count t k) (limitOf k) x)
 
-  pub entry-decides : {f : Fault} → withinLimit t k ≡ true → f ≡ entryFault t k (firstWrong t k) → f ≡ partFault t k
-  unfolding partFault
-  entry-decides {f} e g = g ∙ cond-true _ _ e
+    pub entry-decides : {f : Fault} → n ≤ m → f ≡ entryFault t k (firstWrong t k) → f ≡ partFault t k
+    unfolding partFault withinLimit
+    entry-decides {f} h g =
+        let x : count t k ≤ limitOf k = omega arith in
+        g ∙ cond-true _ _ (le-leb (count t k) (limitOf k) x)
+
+    pub none-wrong : n ≤ m → n ≡ 0 → Nothing ≡ partFault t k
+    none-wrong h z = entry-decides h (walk-ended n 0 (walk-starts n e) (omega arith))
 
 pub laid-out-told : (t : List ℕ) {f : Fault} → f ≡ layoutFault t → nothing f ≡ true → laidOut t ≡ true
 laid-out-told t {f} e g = sym (layout-right t) ∙ ap nothing (sym e) ∙ g

@@ -95,6 +95,9 @@ module _ (t : List ℕ) (l : laidOut t ≡ true) where
   pub header-there : headerOf (edition t) ≤ length t
   header-there = omega (arith, ends .0, ends .1, ends .2, ends .3, last-inside .0, start-behind t Operations, start-behind t Errors, start-behind t ErrorPairs, start-behind t ChildPairs)
 
+  pub header-read : {e : Edition} → e ≡ edition t → headerOf e ≤ length t
+  header-read {e} q = omega (arith, ap headerOf q, header-there)
+
   pub entry-inside : (k : Part) (i : ℕ) → i < count t k → entryStart t k i + sizeOf k ≤ length t
   unfolding behind
   entry-inside k i p = go (part-inside k)

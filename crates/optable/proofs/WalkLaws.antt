@@ -19,16 +19,16 @@ use Rattle.codes.specs.Order.{keyRank}
 use Rattle.codes.specs.Search.{flagsOf, namedBy, keyHere, keyIn}
 use Rattle.codes.proofs.OrderLaws.{same-order}
 use Rattle.optable.specs.declared.Edition.{Edition}
-use Rattle.optable.specs.declared.Edition.the-variants.{First}
 use Rattle.optable.specs.declared.Part.{Part}
 use Rattle.optable.specs.declared.Part.the-variants.{Operations, Errors, ErrorPairs, ChildPairs, Names}
 use Rattle.optable.specs.declared.Breach.{Breach}
-use Rattle.optable.specs.declared.Breach.the-variants.{Unbroken, NameIndex}
+use Rattle.optable.specs.declared.Breach.the-variants.{Unbroken, NameIndex, Order}
 use Rattle.optable.specs.declared.entry.Reached.{Reached}
-use Rattle.optable.specs.Read.{edition, hasPart, sizeOf, count, start, entryStart, octetAt, coded, kindOf, keyAt, nameHere, nameAt, classAt, flagsAt, argumentAt, resultAt, flagAt, parameterAt, firstAt, secondAt}
+use Rattle.optable.specs.declared.entry.Counts.{Counts}
+use Rattle.optable.specs.Read.{edition, sizeOf, count, start, entryStart, octetAt, coded, kindOf, keyAt, nameHere, nameAt, classAt, flagsAt, argumentAt, resultAt, flagAt, parameterAt, firstAt, secondAt, secondPart}
 use Rattle.optable.specs.Validity.{laidOut, allowed, keyRight, pairs, pairBelow, above, rises, sameNames, newName, standsRight}
-use Rattle.optable.specs.Fault.{needs, operationBreach, errorBreach, keyBreach, formBreach, pairBreach, fieldsBreach}
-use Rattle.optable.specs.Steps.{Stands, orderHere}
+use Rattle.optable.specs.Fault.{needs, operationBreach, errorBreach, keyBreach, formBreach, pairBreach, fieldsBreach, standBreach}
+use Rattle.optable.specs.Steps.{inEvery, Stands, countsOf, secondsOf, orderHere}
 use Rattle.optable.proofs.LayoutLaws.{next-entry, entry-near, entry-starts-rise, entry-inside}
 use Rattle.optable.proofs.ValidityAnswers.{first-below, first-above, first-same}
 
@@ -98,6 +98,17 @@ module _ (t : List ℕ) (at : ℕ) where
 
   pub order-of-pair : (k l : Part) {n : ℕ} → k ≡ l → coded l ≡ false → n ≡ u32 t at → n ≡ orderHere t k at
   order-of-pair k l {n} e w f = f ∙ rw (e, w) refl
+
+-- the count that a pair's second index is held against
+pub seconds-told : (t : List ℕ) (k : Part) {c : Counts} {m : ℕ} → c ≡ countsOf t → m ≡ secondsOf c k → m ≡ count t (secondPart k)
+seconds-told t k {c} {m} e f = f ∙ ap (λ (x : Counts). secondsOf x k) e ∙ go k
+  where
+    go : (k : Part) → secondsOf (countsOf t) k ≡ count t (secondPart k)
+    go Operations = refl
+    go Errors = refl
+    go ErrorPairs = refl
+    go ChildPairs = refl
+    go Names = refl
 
 -- the key of the entry that starts there
 key-there : (t : List ℕ) (k : Part) (i : ℕ) → coded k ≡ true → keyHere t (kindOf k) (entryStart t k i) ≡ keyAt t k i
@@ -169,25 +180,35 @@ pub name-read : (t : List ℕ) (j : ℕ) {a : ℕ} {n : Name} → a ≡ entrySta
 unfolding nameAt
 name-read t j {a} {n} e f = f ∙ ap (nameHere t) e
 
-pub name-fields : (t : List ℕ) (i : ℕ) (k : Part) {n : Name} {f : Form} {b : Breach} → k ≡ Names → n ≡ nameAt t i → f ≡ nameForm n → b ≡ formBreach f → b ≡ fieldsBreach t k i
+pub name-fields : (t : List ℕ) (i : ℕ) {n : Name} {f : Form} {b : Breach} → n ≡ nameAt t i → f ≡ nameForm n → b ≡ formBreach f → b ≡ fieldsBreach t Names i
 unfolding fieldsBreach
-name-fields t i k {n} {f} {b} e g h m = m ∙ rw (h, g, e) refl
+name-fields t i {n} {f} {b} g h m = m ∙ rw (h, g) refl
 
 -- ---- where an entry may stand
 
-module _ (t : List ℕ) (i : ℕ) where
-  -- all but names, which edition 1 has not, rise
-  pub rising-stands : (k l : Part) {b : Bool} → k ≡ l → hasPart First l ≡ true → b ≡ rises t k i → b ≡ standsRight t k i
-  unfolding standsRight
-  rising-stands k Operations {b} e w f = f ∙ rw e refl
-  rising-stands k Errors {b} e w f = f ∙ rw e refl
-  rising-stands k ErrorPairs {b} e w f = f ∙ rw e refl
-  rising-stands k ChildPairs {b} e w f = f ∙ rw e refl
-  rising-stands k Names {b} e w f = absurd (false≢true w)
+pub nameless : {k : Part} → k ≡ Names → inEvery k ≡ true → ⊥
+nameless {k} e w = false≢true (ap inEvery (sym e) ∙ w)
 
-  pub new-stands : (k : Part) {b : Bool} → k ≡ Names → b ≡ newName t i → b ≡ standsRight t k i
+pub order-broken : (k : Part) → inEvery k ≡ true → Order ≡ standBreach k
+order-broken Operations w = refl
+order-broken Errors w = refl
+order-broken ErrorPairs w = refl
+order-broken ChildPairs w = refl
+order-broken Names w = absurd (false≢true w)
+
+module _ (t : List ℕ) (i : ℕ) where
+  -- all but names rise
+  pub rising-stands : (k : Part) {b : Bool} → inEvery k ≡ true → b ≡ rises t k i → b ≡ standsRight t k i
   unfolding standsRight
-  new-stands k {b} e f = f ∙ rw e refl
+  rising-stands Operations {b} w f = f
+  rising-stands Errors {b} w f = f
+  rising-stands ErrorPairs {b} w f = f
+  rising-stands ChildPairs {b} w f = f
+  rising-stands Names {b} w f = absurd (false≢true w)
+
+  pub new-stands : {b : Bool} → b ≡ newName t i → b ≡ standsRight t Names i
+  unfolding standsRight
+  new-stands {b} f = f
 
   -- the walk over the names before one, at name h
   module _ (h : ℕ) {a n : Name} (e : a ≡ nameAt t h) (f : n ≡ nameAt t i) where
@@ -208,6 +229,3 @@ module _ (t : List ℕ) (i : ℕ) where
   name-new h e r =
       let g : any (sameNames t i) i ≡ false = ap (any (sameNames t i)) (sym e) ∙ r in
       rw g refl
-
-pub reached-as : (t : List ℕ) {k l : Part} {i : ℕ} → k ≡ l → i < count t k → i < count t l
-reached-as t {k} {l} {i} q p = subst (λ (x : Part). i < count t x) q p

@@ -16,12 +16,17 @@ use Rattle.codes.specs.Code.{sameName}
 use Rattle.codes.specs.Order.{keyRank}
 use Rattle.codes.specs.Count.{seek}
 use Rattle.codes.specs.Search.{keyHere, inSeven}
-use Rattle.optable.specs.Read.{edition, count, entryStart, sizeOf, coded, kindOf, keyAt, nameAt, secondPart}
+use Rattle.optable.specs.Read.{edition, hasPart, count, entryStart, sizeOf, coded, kindOf, keyAt, nameAt}
 use Rattle.optable.specs.Validity.{laidOut}
+use Rattle.optable.specs.declared.Edition.the-variants.{First}
 use Rattle.optable.specs.declared.Part.{Part}
-use Rattle.optable.specs.declared.Part.the-variants.{Operations, Names}
+use Rattle.optable.specs.declared.Part.the-variants.{Operations, Errors, ErrorPairs, ChildPairs, Names}
 use Rattle.optable.specs.declared.entry.Reached.{Reached}
 use Rattle.optable.specs.declared.entry.Counts.{Counts}
+
+-- every edition has the part
+abbrev pub inEvery : Part → Bool
+inEvery k = hasPart First k
 
 -- ---- a walk over a part
 
@@ -34,8 +39,16 @@ pub record Stands (t : List ℕ) (k : Part) (e : Reached) : Type 0 where
   pub near : e .at < 2097152
 
 -- the edition, and the counts that indexes are held against
-abbrev pub countsOf : List ℕ → Part → Counts
-countsOf t k = record { edition = edition t; operations = count t Operations; seconds = count t (secondPart k); names = count t Names }
+abbrev pub countsOf : List ℕ → Counts
+countsOf t = record { edition = edition t; operations = count t Operations; errors = count t Errors; names = count t Names }
+
+-- the count that a pair's second index is held against
+abbrev pub secondsOf : Counts → Part → ℕ
+secondsOf c Operations = c .operations
+secondsOf c Errors = c .operations
+secondsOf c ErrorPairs = c .errors
+secondsOf c ChildPairs = c .operations
+secondsOf c Names = c .operations
 
 -- a number that rises with the entries, of the entry that starts there
 abbrev pub orderHere : List ℕ → Part → ℕ → ℕ

@@ -1,35 +1,32 @@
-// Which rule a part's entries break, each by itself and in their order.
+// Which rule the entries of operations, errors and pairs break, each by itself and in their order.
 ghost use mathlib.Core.Path.{_≡_};
 ghost use mathlib.Core.Bool.{true};
 ghost use lib.ListN.{length};
 ghost use Prim.Native.Nat.{_+_, _-_, _≤_, _<_};
 ghost use Rattle.base.specs.Octets.{u16};
 ghost use Rattle.codes.specs.Search.{keyHere, sizeOf as entrySize};
-ghost use Rattle.optable.specs.Validity.{laidOut, above, rises, newName, standsRight};
-ghost use Rattle.optable.specs.Read.{edition, headerOf, hasPart, count, start, sizeOf, nameAt, classAt};
-ghost use Rattle.optable.specs.Fault.{pairBreach, fieldsBreach, standBreach, entryBreach, firstWrong, entryFault};
-ghost use Rattle.optable.specs.Steps.{orderHere, Stands, countsOf};
+ghost use Rattle.optable.specs.Validity.{laidOut, above, rises};
+ghost use Rattle.optable.specs.Read.{edition, count, sizeOf, classAt};
+ghost use Rattle.optable.specs.Fault.{pairBreach, fieldsBreach, entryBreach, firstWrong, entryFault};
+ghost use Rattle.optable.specs.Steps.{inEvery, orderHere, Stands, countsOf, secondsOf};
 use crate::Breach;
 use crate::Edition;
 use crate::Fault;
 use crate::Part;
 use crate::Rule;
 use crate::fields::error_breach;
-use crate::fields::form_breach;
 use crate::fields::is_allowed;
 use crate::fields::key_breach;
 use crate::fields::operation_breach;
 use crate::read::count_within;
+use crate::read::edition;
 use crate::read::four_within;
 use crate::read::header_of;
-use crate::read::name_within;
-use crate::read::second_part;
 use crate::read::size_of;
 use crate::read::start_within;
 use crate::read::two_within;
 use codes::Key;
 use codes::Kind;
-use codes::Name;
 
 // An entry that a walk has reached: its index, where it starts, and where the entry before it starts.
 struct Reached {
@@ -38,23 +35,37 @@ struct Reached {
     before: usize,
 }
 
-// The edition, how many operations and names there are, and how many of what a pair's second index is of.
-struct Counts {
-    edition: Edition,
-    operations: u16,
-    seconds: u16,
-    names: u16,
+// The edition, and how many there are of what an index can be of.
+pub(crate) struct Counts {
+    pub edition: Edition,
+    pub operations: u16,
+    pub errors: u16,
+    pub names: u16,
 }
 
-fn counts_of(table: &[u8], e: Edition, part: Part) -> Counts
-    requires { ⌜ (e ≡ edition (now table)) × (headerOf e ≤ length (now table)) ⌝ }
-    ensures { λ r. ⌜ r ≡ countsOf (now (table .entry)) part ⌝ }
+pub(crate) fn counts_of(table: &[u8]) -> Counts
+    requires { ⌜ laidOut (now table) ≡ true ⌝ }
+    ensures { λ r. ⌜ r ≡ countsOf (now (table .entry)) ⌝ }
 {
+    let e = edition(table);
     Counts {
         edition: e,
         operations: count_within(table, e, Part::Operations),
-        seconds: count_within(table, e, second_part(part)),
+        errors: count_within(table, e, Part::Errors),
         names: count_within(table, e, Part::Names),
+    }
+}
+
+// How many there are of what a pair's second index is of.
+fn seconds_of(counts: Counts, part: Part) -> u16
+    ensures { λ r. ⌜ r ≡ secondsOf counts part ⌝ }
+{
+    match part {
+        Part::Operations => counts.operations,
+        Part::Errors => counts.operations,
+        Part::ErrorPairs => counts.errors,
+        Part::ChildPairs => counts.operations,
+        Part::Names => counts.operations,
     }
 }
 
@@ -67,14 +78,14 @@ fn class_within(table: &[u8], e: Edition, i: u16) -> u8
 }
 
 fn pair_breach(table: &[u8], part: Part, reached: Reached, counts: Counts) -> Breach
-    requires { ⌜ Stands (now table) part reached × (counts ≡ countsOf (now table) part) ⌝ }
+    requires { ⌜ Stands (now table) part reached × (counts ≡ countsOf (now table)) ⌝ }
     ensures { λ r. ⌜ r ≡ pairBreach (now (table .entry)) part (reached .index) ⌝ }
 {
     let operation = two_within(table, reached.at);
     if operation >= counts.operations {
         return Breach::FirstIndex;
     }
-    if two_within(table, reached.at + 2) >= counts.seconds {
+    if two_within(table, reached.at + 2) >= seconds_of(counts, part) {
         return Breach::SecondIndex;
     }
     let e = counts.edition;
@@ -134,54 +145,6 @@ fn is_rising(table: &[u8], part: Part, reached: Reached) -> bool
     is_above(table, part, reached)
 }
 
-// Whether a name is none of those before it, which start at `first`.
-fn is_new_name(table: &[u8], first: usize, i: u16, name: Name) -> bool
-    requires { ⌜ (laidOut (now table) ≡ true) × (i < count (now table) Part.Names) × (first ≡ start (now table) Part.Names) × (first < 65536) × (name ≡ nameAt (now table) i) ⌝ }
-    ensures { λ r. ⌜ r ≡ newName (now (table .entry)) i ⌝ }
-{
-    let mut at = first;
-    let mut h: u16 = 0;
-    while h < i {
-        if name_within(table, at).same(name) {
-            return false;
-        }
-        at += 17;
-        h += 1;
-    }
-    true
-}
-
-// Whether an entry may stand where it does.
-fn is_standing(table: &[u8], part: Part, reached: Reached, counts: Counts) -> bool
-    requires { ⌜ Stands (now table) part reached × (counts ≡ countsOf (now table) part) × (reached .index < count (now table) part) ⌝ }
-    ensures { λ r. ⌜ r ≡ standsRight (now (table .entry)) part (reached .index) ⌝ }
-{
-    match part {
-        Part::Operations => is_rising(table, part, reached),
-        Part::Errors => is_rising(table, part, reached),
-        Part::ErrorPairs => is_rising(table, part, reached),
-        Part::ChildPairs => is_rising(table, part, reached),
-        Part::Names => {
-            let e = counts.edition;
-            let first = start_within(table, e, Part::Names) as usize;
-            is_new_name(table, first, reached.index, name_within(table, reached.at))
-        }
-    }
-}
-
-// What an entry breaks that may not stand where it does.
-fn stand_breach(part: Part) -> Breach
-    ensures { λ r. ⌜ r ≡ standBreach part ⌝ }
-{
-    match part {
-        Part::Operations => Breach::Order,
-        Part::Errors => Breach::Order,
-        Part::ErrorPairs => Breach::Order,
-        Part::ChildPairs => Breach::Order,
-        Part::Names => Breach::Repeated,
-    }
-}
-
 fn operation_at_breach(table: &[u8], reached: Reached, counts: Counts) -> Breach
     requires { ⌜ Stands (now table) Part.Operations reached × (counts .edition ≡ edition (now table)) × (counts .names ≡ count (now table) Part.Names) ⌝ }
     ensures { λ r. ⌜ r ≡ fieldsBreach (now (table .entry)) Part.Operations (reached .index) ⌝ }
@@ -222,9 +185,9 @@ fn error_at_breach(table: &[u8], reached: Reached, counts: Counts) -> Breach
     key_breach(key_within(table, Kind::Error, at), counts.names)
 }
 
-// What an entry breaks by itself.
+// What an entry breaks by itself; no name comes here.
 fn fields_breach(table: &[u8], part: Part, reached: Reached, counts: Counts) -> Breach
-    requires { ⌜ Stands (now table) part reached × (counts ≡ countsOf (now table) part) ⌝ }
+    requires { ⌜ Stands (now table) part reached × (counts ≡ countsOf (now table)) × (inEvery part ≡ true) ⌝ }
     ensures { λ r. ⌜ r ≡ fieldsBreach (now (table .entry)) part (reached .index) ⌝ }
 {
     match part {
@@ -232,31 +195,30 @@ fn fields_breach(table: &[u8], part: Part, reached: Reached, counts: Counts) -> 
         Part::Errors => error_at_breach(table, reached, counts),
         Part::ErrorPairs => pair_breach(table, part, reached, counts),
         Part::ChildPairs => pair_breach(table, part, reached, counts),
-        Part::Names => form_breach(name_within(table, reached.at).form()),
+        Part::Names => Breach::Unbroken,
     }
 }
 
 fn entry_breach(table: &[u8], part: Part, reached: Reached, counts: Counts) -> Breach
-    requires { ⌜ Stands (now table) part reached × (counts ≡ countsOf (now table) part) × (reached .index < count (now table) part) ⌝ }
+    requires { ⌜ Stands (now table) part reached × (counts ≡ countsOf (now table)) × (inEvery part ≡ true) ⌝ }
     ensures { λ r. ⌜ r ≡ entryBreach (now (table .entry)) part (reached .index) ⌝ }
 {
     let fields = fields_breach(table, part, reached, counts);
     if !fields.is_unbroken() {
         return fields;
     }
-    if !is_standing(table, part, reached, counts) {
-        return stand_breach(part);
+    if !is_rising(table, part, reached) {
+        return Breach::Order;
     }
     Breach::Unbroken
 }
 
-// One walk over a part, to its first entry that is wrong.
-pub(crate) fn first_wrong(table: &[u8], e: Edition, part: Part) -> Fault
-    requires { ⌜ (laidOut (now table) ≡ true) × (e ≡ edition (now table)) × (hasPart e part ≡ true) ⌝ }
+// One walk over a part that every edition has, to its first entry that is wrong.
+pub(crate) fn first_wrong(table: &[u8], counts: Counts, part: Part, n: u16) -> Fault
+    requires { ⌜ (laidOut (now table) ≡ true) × (counts ≡ countsOf (now table)) × (n ≡ count (now table) part) × (inEvery part ≡ true) ⌝ }
     ensures { λ r. ⌜ r ≡ entryFault (now (table .entry)) part (firstWrong (now (table .entry)) part) ⌝ }
 {
-    let n = count_within(table, e, part);
-    let counts = counts_of(table, e, part);
+    let e = counts.edition;
     let size = size_of(part);
     let mut at = start_within(table, e, part) as usize;
     let mut before: usize = 0;

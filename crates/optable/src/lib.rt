@@ -12,13 +12,16 @@ mod entry;
 mod extending;
 mod fields;
 mod lookup;
+mod names;
 pub mod places;
 pub mod read;
 mod validity;
 
 use codes::Code;
 use codes::Form;
+use entry::counts_of;
 use extending::part_extension;
+use names::names_fault;
 use places::error_in;
 use places::error_place;
 use places::has_child_at;
@@ -135,23 +138,24 @@ pub fn first_fault(table: &[u8]) -> Fault
     if !layout.is_nothing() {
         return layout;
     }
-    let operations = part_fault(table, Part::Operations);
+    let counts = counts_of(table);
+    let operations = part_fault(table, counts, Part::Operations);
     if !operations.is_nothing() {
         return operations;
     }
-    let errors = part_fault(table, Part::Errors);
+    let errors = part_fault(table, counts, Part::Errors);
     if !errors.is_nothing() {
         return errors;
     }
-    let pairs = part_fault(table, Part::ErrorPairs);
+    let pairs = part_fault(table, counts, Part::ErrorPairs);
     if !pairs.is_nothing() {
         return pairs;
     }
-    let children = part_fault(table, Part::ChildPairs);
+    let children = part_fault(table, counts, Part::ChildPairs);
     if !children.is_nothing() {
         return children;
     }
-    part_fault(table, Part::Names)
+    names_fault(table, counts)
 }
 
 pub fn valid(table: &[u8]) -> bool

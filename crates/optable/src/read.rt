@@ -6,12 +6,14 @@ ghost use lib.ListN.{length};
 ghost use Rattle.base.specs.Octets.{u16, u32, u64};
 ghost use Rattle.optable.specs.Read.{edition, headerOf, nameHere, hasPart, countsAt, headOf, sizeOf, count, start, entryStart, octetAt, keyAt, nameAt, codeOf, codeAt, operationAt, idempotentAt, errorAt, firstAt, secondAt, secondPart, kindOf};
 ghost use Rattle.optable.specs.Validity.{limitOf, behind};
+ghost use Rattle.optable.specs.Steps.{inEvery};
 use crate::Edition;
 use crate::Error;
 use crate::Operation;
 use crate::Part;
 use crate::Rule;
 use base::octets::eight;
+use base::octets::four;
 use base::octets::octet;
 use base::octets::two;
 use codes::Code;
@@ -63,13 +65,10 @@ pub(crate) fn name_within(table: &[u8], at: usize) -> Name
 pub fn edition(table: &[u8]) -> Edition
     ensures { λ r. ⌜ r ≡ edition (now (table .entry)) ⌝ }
 {
-    if two(table, 0) != 65535 {
-        return Edition::First;
+    if four(table, 0) == 0xFFFF_0002 {
+        return Edition::Second;
     }
-    if two(table, 2) != 2 {
-        return Edition::First;
-    }
-    Edition::Second
+    Edition::First
 }
 
 // How many octets a header has.
@@ -171,6 +170,24 @@ pub fn start(table: &[u8], part: Part) -> u16
     ensures { λ r. ⌜ r ≡ start (now (table .entry)) part ⌝ }
 {
     two(table, counts_at(edition(table)) + head_of(part) + 2)
+}
+
+// Where a part starts and how many entries it has.
+pub(crate) struct Head {
+    pub start: u16,
+    pub count: u16,
+}
+
+// Both in one read, for a part that every edition has.
+pub(crate) fn head_at(table: &[u8], part: Part) -> Head
+    requires { ⌜ inEvery part ≡ true ⌝ }
+    ensures { λ r. ⌜ (r .start ≡ start (now (table .entry)) part) × (r .count ≡ count (now (table .entry)) part) ⌝ }
+{
+    let head = four(table, counts_at(edition(table)) + head_of(part));
+    Head {
+        start: (head % 65536) as u16,
+        count: (head / 65536) as u16,
+    }
 }
 
 // A part's count and start, read of a table that has its header.
