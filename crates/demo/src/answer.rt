@@ -49,6 +49,10 @@ fn reject_words(words: &[u8], id: Number, kind: u8, problem: u8) {
     problem_name(1, kind, problem);
 }
 
+fn reject_of(id: u32, kind: u8, problem: u8) {
+    reject_words(b"reject: ", Number::Of(id), kind, problem);
+}
+
 fn indication_words(x: &[u8], said: Indication) {
     match said {
         Indication::Invoke {
@@ -78,15 +82,9 @@ fn indication_words(x: &[u8], said: Indication) {
             say(b": ");
             invocation_words(id.0, operation, b" parameter", x, parameter);
         }
-        Indication::InvokeRejected { id, problem } => {
-            reject_words(b"reject: ", Number::Of(id.0), 0x81, problem)
-        }
-        Indication::ResultRejected { id, problem } => {
-            reject_words(b"reject: ", Number::Of(id.0), 0x82, problem)
-        }
-        Indication::ErrorRejected { id, problem } => {
-            reject_words(b"reject: ", Number::Of(id.0), 0x83, problem)
-        }
+        Indication::InvokeRejected { id, problem } => reject_of(id.0, 0x81, problem),
+        Indication::ResultRejected { id, problem } => reject_of(id.0, 0x82, problem),
+        Indication::ErrorRejected { id, problem } => reject_of(id.0, 0x83, problem),
         _ => say(b"another reject"),
     }
 }

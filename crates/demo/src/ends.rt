@@ -34,7 +34,7 @@ const CONTROLLER: [u8; 44] = *b"\
     \x00\x00\x00\x01\x00\x00\x00\x00\x00\x02\x00\x00\
     \x00\x00\x00\x00\x00\x00\x00\x01";
 
-// The kiosk's table in edition 2, with names last: operation 7 as before, and 2b0601, which has a name, reads a probe as well; error 1 is paired with both.
+// It extends the kiosk's table, in edition 2, by an operation with the name 2b0601: a reading too, paired with error 1; names stand last.
 const NAMED: [u8; 71] = *b"\
     \xff\xff\x00\x02\x00\x02\x00\x18\x00\x01\x00\x28\x00\x02\x00\x2e\x00\x00\x00\x36\x00\x01\x00\x36\
     \x00\x00\x00\x07\x02\x02\x02\x02\x00\x00\x00\x00\x02\x02\x02\x06\
@@ -127,13 +127,18 @@ pub(crate) fn ask(site: Site, id: u32) -> Site {
     controller_reads(invoke(site, &KIOSK, id, Code::Local(7)))
 }
 
-// The kiosk invokes the operation that has a name, which its first table lacks.
-pub(crate) fn ask_too_early(site: Site, id: u32) -> Site {
-    invoke(site, &KIOSK, id, Code::Global(Name::of(b"\x2b\x06\x01")))
+// The operation that has a name.
+fn named() -> Code {
+    Code::Global(Name::of(b"\x2b\x06\x01"))
+}
+
+// The kiosk invokes it with its first table, which lacks it.
+pub(crate) fn ask_unlisted(site: Site, id: u32) -> Site {
+    invoke(site, &KIOSK, id, named())
 }
 
 pub(crate) fn ask_by_name(site: Site, id: u32) -> Site {
-    invoke(site, &NAMED, id, Code::Global(Name::of(b"\x2b\x06\x01")))
+    invoke(site, &NAMED, id, named())
 }
 
 // What the controller's request left: its new state, and the answer on the channel.

@@ -9,7 +9,7 @@ use day::with_unknown;
 use ends::Site;
 use ends::ask;
 use ends::ask_by_name;
-use ends::ask_too_early;
+use ends::ask_unlisted;
 use ends::controller_reads;
 use ends::error;
 use ends::forget;
@@ -128,7 +128,7 @@ fn named(mut site: Site) -> Site {
     say(
         b"\n10. An operation by name: a controller of another make has it, the first controller does not\n",
     );
-    site = ask_too_early(site, 13);
+    site = ask_unlisted(site, 13);
     say(b"   kiosk takes       a table of edition 2, which has the operation name 2b0601\n");
     site = ask_by_name(site, 13);
     site = other_make(site, NAMED, 15);

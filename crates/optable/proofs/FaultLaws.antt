@@ -187,8 +187,8 @@ module _ (t : List ℕ) (k : Part) where
         let x : count t k ≤ limitOf k = omega arith in
         g ∙ cond-true _ _ (le-leb (count t k) (limitOf k) x)
 
-    pub none-wrong : n ≤ m → n ≡ 0 → Nothing ≡ partFault t k
-    none-wrong h z = entry-decides h (walk-ended n 0 (walk-starts n e) (omega arith))
+  pub none-wrong : {n : ℕ} → n ≡ count t k → n ≡ 0 → Nothing ≡ partFault t k
+  none-wrong {n} e z = entry-decides {m = limitOf k} e refl (omega arith) (walk-ended n 0 (walk-starts n e) (omega arith))
 
 pub laid-out-told : (t : List ℕ) {f : Fault} → f ≡ layoutFault t → nothing f ≡ true → laidOut t ≡ true
 laid-out-told t {f} e g = sym (layout-right t) ∙ ap nothing (sym e) ∙ g
