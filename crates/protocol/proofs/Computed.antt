@@ -1,4 +1,4 @@
--- What computes, with one list of what is unfolded: P1 to P12, the runs of Witness.antt, and the premises of demand 3 for the good one.
+-- What computes, with one list of what is unfolded: P1 to P12, the runs of Witness.antt, and the premises of demand 3 for two of them.
 use mathlib.Core.Path.{_≡_, refl}
 use mathlib.Core.Bool.{true, false}
 use mathlib.Core.List.{map, List·Memᴰ·head as here, List·Memᴰ·tail as there}
@@ -29,7 +29,8 @@ use Rattle.protocol.specs.Perform.{laterChecks, done, perform}
 use Rattle.protocol.specs.Marked.{MarkedHold}
 use Rattle.protocol.specs.Book.{begin, final, Along, answerTo}
 use Rattle.protocol.specs.Demand3.{Fair, UsesIdsOnce}
-use Rattle.protocol.proofs.Witness.{tableO, tableN, tableG, tableH, named1, good, named, runs, told, tells}
+use Rattle.protocol.proofs.WitnessTables.{tableO, tableN, tableG, tableH}
+use Rattle.protocol.proofs.Witness.{named1, good, named, runs, told, tells}
 
 pub record Computed : Type 0 where
   -- P1 to P12 hold of the written definitions

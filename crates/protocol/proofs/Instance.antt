@@ -1,7 +1,8 @@
 -- Demand 3 speaks of two runs of Witness.antt, one of them with names: its premises hold of them.
 use Rattle.protocol.specs.Demand3.{Conclusion}
 use Rattle.protocol.proofs.Theorem.{demand-3}
-use Rattle.protocol.proofs.Witness.{tableO, tableN, tableG, tableH, good, named}
+use Rattle.protocol.proofs.WitnessTables.{tableO, tableN, tableG, tableH}
+use Rattle.protocol.proofs.Witness.{good, named}
 use Rattle.protocol.proofs.Computed.{computed}
 
 conclusion : Conclusion tableO tableN good

@@ -1,4 +1,4 @@
--- Laws and proofs of the protocol. Theorem has demand 3, Invariant what it rests on, Steady the run of one end, Computed P1 to P12 and the runs of Witness; Instance says that demand 3 speaks of one.
+-- Laws and proofs of the protocol. Theorem has demand 3, Invariant what it rests on, Steady the run of one end, Computed P1 to P12 and the runs of Witness; Instance says that demand 3 speaks of two.
 pub mod Checks
 pub mod Facts
 pub mod Refusals
@@ -14,6 +14,7 @@ mod Controller
 mod Showing
 mod Reaching
 pub mod Theorem
+mod WitnessTables
 mod Witness
 pub mod Computed
 mod Instance
