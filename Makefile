@@ -17,7 +17,7 @@ demo:
 	$(kit)
 	log=$$(mktemp)
 	trap 'rm -f "$$log"' EXIT
-	echo "make demo: each crate is proved from nothing before demo is built, some five minutes on 2 cores; the next time it starts at once."
+	echo "make demo: each crate is proved from nothing before demo is built, some six minutes on 2 cores; the next time it starts at once."
 	echo "To look first: crates/demo/stdout is what it prints, and rt try demo runs it in three seconds, with nothing proved."
 	rt check demo 2>&1 | tee "$$log" | { grep --line-buffered '^rt: .* proved' || true; } || { cat "$$log"; echo "make demo: failed"; exit 1; }
 	echo
@@ -53,7 +53,7 @@ bench:
 	$(kit)
 	need cargo "install Rust; no crate is fetched"
 	need valgrind "it counts the instructions"
-	echo "make bench: drive and replay are proved before they are built, some six minutes on 2 cores the first time."
+	echo "make bench: drive and replay are proved before they are built."
 	rt check drive replay | grep '^rt: .* proved'
 	cargo build --release --offline --quiet --manifest-path tests/second/Cargo.toml
 	python3 tests/bench/bench.py
