@@ -1,5 +1,7 @@
 mod Numbers
+pub mod IdLaws
 pub mod Laws
+pub mod RestingLaws
 pub mod Stored
 pub mod Rows
 pub mod Soundness

@@ -11,7 +11,8 @@ use lib.Dec.{eqb}
 use lib.ListN.{length, take, drop, getD, set, drop-of-length-le, length-take}
 use lib.Seq.{drop-cons, getD-take, getD-set-same, getD-set-other, length-take-le}
 use Rattle.base.proofs.Tests.{and-true, and-left, and-right}
-use Rattle.records.specs.Steps.{isAmong, areApart, flagOf}
+use Rattle.records.specs.Resting.{among, eachOnce}
+use Rattle.records.specs.Steps.{flagOf, noneAmong}
 
 or-true : (f : Bool) → (f || true) ≡ true
 or-true true = refl
@@ -28,7 +29,7 @@ abbrev pub marked : List Bool → List ℕ → Bool
 marked fs [] = true
 marked fs (x ∷ l) = getD fs (flagOf x) false && marked fs l
 
-pub unmarked-is-absent : (fs : List Bool) (l : List ℕ) (x : ℕ) → marked fs l ≡ true → getD fs (flagOf x) false ≡ false → isAmong x l ≡ false
+pub unmarked-is-absent : (fs : List Bool) (l : List ℕ) (x : ℕ) → marked fs l ≡ true → getD fs (flagOf x) false ≡ false → among x l ≡ false
 unmarked-is-absent fs [] x m z = refl
 unmarked-is-absent fs (y ∷ l) x m z =
     let is-set : getD fs (flagOf y) false ≡ true = and-left (getD fs (flagOf y) false) (marked fs l) m in
@@ -49,10 +50,10 @@ marked-still fs k p (y ∷ l) m =
 
 -- ---- whether no number stands twice
 
-apart-behind : (l : List ℕ) (i : ℕ) → areApart (drop i l) ≡ false → areApart l ≡ false
+apart-behind : (l : List ℕ) (i : ℕ) → eachOnce (drop i l) ≡ false → eachOnce l ≡ false
 apart-behind l zero h = h
 apart-behind [] (suc i) h = h
-apart-behind (x ∷ l) (suc i) h = rw (apart-behind l i h) (and-false (not (isAmong x l)))
+apart-behind (x ∷ l) (suc i) h = rw (apart-behind l i h) (and-false (not (among x l)))
   where
     and-false : (b : Bool) → (b && false) ≡ false
     and-false true = refl
@@ -65,24 +66,32 @@ module _ (ids : List ℕ) (n i : ℕ) (p : i < n) (q : n ≤ length ids) where
       rw (add-one, drop-cons (take n ids) i 0, getD-take)
 
   module _ (x : ℕ) where
-    pub among-here : getD ids i 0 ≡ x → isAmong x (drop i (take n ids)) ≡ true
+    pub among-here : getD ids i 0 ≡ x → among x (drop i (take n ids)) ≡ true
     among-here h = rw left (simp (eq-eqb _ _ h))
 
-    pub among-next : (getD ids i 0 ≡ x → ⊥) → isAmong x (drop i (take n ids)) ≡ isAmong x (drop (i + 1) (take n ids))
+    pub among-next : (getD ids i 0 ≡ x → ⊥) → among x (drop i (take n ids)) ≡ among x (drop (i + 1) (take n ids))
     among-next h = rw left (simp (ne-eqb _ _ h))
 
     -- a search that is not left early
-    module _ (found : Bool) (e : (found || isAmong x (drop i (take n ids))) ≡ isAmong x (take n ids)) where
-      pub found-here : getD ids i 0 ≡ x → true ≡ isAmong x (take n ids)
+    module _ (found : Bool) (e : (found || among x (drop i (take n ids))) ≡ among x (take n ids)) where
+      pub found-here : getD ids i 0 ≡ x → true ≡ among x (take n ids)
       found-here h = sym (ap (λ (b : Bool). found || b) (among-here h) ∙ or-true found) ∙ e
 
-      pub found-next : (getD ids i 0 ≡ x → ⊥) → (found || isAmong x (drop (i + 1) (take n ids))) ≡ isAmong x (take n ids)
+      pub found-next : (getD ids i 0 ≡ x → ⊥) → (found || among x (drop (i + 1) (take n ids))) ≡ among x (take n ids)
       found-next h = ap (λ (b : Bool). found || b) (sym (among-next h)) ∙ e
 
-  pub apart-once : isAmong (getD ids i 0) (drop (i + 1) (take n ids)) ≡ false → areApart (drop (i + 1) (take n ids)) ≡ true → areApart (drop i (take n ids)) ≡ true
+  -- whether none of these is among others
+  module _ (others : List ℕ) where
+    pub none-here : among (getD ids i 0) others ≡ true → noneAmong (drop i (take n ids)) others ≡ false
+    none-here h = rw left (simp h)
+
+    pub none-next : among (getD ids i 0) others ≡ false → noneAmong (drop i (take n ids)) others ≡ noneAmong (drop (i + 1) (take n ids)) others
+    none-next h = rw left (simp h)
+
+  pub apart-once : among (getD ids i 0) (drop (i + 1) (take n ids)) ≡ false → eachOnce (drop (i + 1) (take n ids)) ≡ true → eachOnce (drop i (take n ids)) ≡ true
   apart-once h k = rw left (simp (h, k))
 
-  pub apart-twice : isAmong (getD ids i 0) (drop (i + 1) (take n ids)) ≡ true → false ≡ areApart (take n ids)
+  pub apart-twice : among (getD ids i 0) (drop (i + 1) (take n ids)) ≡ true → false ≡ eachOnce (take n ids)
   apart-twice h = sym (apart-behind (take n ids) i (rw left (simp h)))
 
   pub marked-more : (fs : List Bool) → flagOf (getD ids i 0) < length fs → marked fs (drop (i + 1) (take n ids)) ≡ true → marked (set fs (flagOf (getD ids i 0)) true) (drop i (take n ids)) ≡ true
@@ -96,13 +105,16 @@ module _ (ids : List ℕ) (n i : ℕ) (p : n ≤ i) where
   none-left : drop i (take n ids) ≡ []
   none-left = drop-of-length-le (take n ids) {i = i} (omega (arith, length-take n ids))
 
-  pub among-none : (x : ℕ) → isAmong x (drop i (take n ids)) ≡ false
+  pub among-none : (x : ℕ) → among x (drop i (take n ids)) ≡ false
   among-none x = rw none-left refl
 
-  pub found-ended : (x : ℕ) (found : Bool) → (found || isAmong x (drop i (take n ids))) ≡ isAmong x (take n ids) → found ≡ isAmong x (take n ids)
+  pub found-ended : (x : ℕ) (found : Bool) → (found || among x (drop i (take n ids))) ≡ among x (take n ids) → found ≡ among x (take n ids)
   found-ended x found e = sym (ap (λ (b : Bool). found || b) (among-none x) ∙ or-false found) ∙ e
 
-  pub apart-none : areApart (drop i (take n ids)) ≡ true
+  pub none-ended : (others : List ℕ) → noneAmong (drop i (take n ids)) others ≡ true
+  none-ended others = rw none-left refl
+
+  pub apart-none : eachOnce (drop i (take n ids)) ≡ true
   apart-none = rw none-left refl
 
   pub marked-none : (fs : List Bool) → marked fs (drop i (take n ids)) ≡ true

@@ -14,17 +14,17 @@ use Rattle.codes.proofs.CodeLaws.{same-code-equal}
 use Rattle.records.specs.declared.Record.{Record}
 use Rattle.records.specs.declared.Records.{Records}
 use Rattle.records.specs.declared.State.{State}
-use Rattle.records.specs.Limits.{records}
+use Rattle.records.specs.Limits.{records, resting}
 use Rattle.records.specs.Records.{unused, places, side, view, pack, member, without, distinct, formed, blank, soundRecords, added, retired}
+use Rattle.records.specs.Resting.{packIds, viewIds, soundResting}
 use Rattle.records.specs.State.{fresh, soundState}
+use Rattle.records.proofs.IdLaws.{one-less}
 use Rattle.records.proofs.Stored.{Storable, storable-rows, storable-take, storable-without, storable-append, storable-unused, storable-formed}
 use Rattle.records.proofs.Rows.{Even, rows-length, rows-side, side-back, view-pack}
 use Rattle.records.proofs.Laws.{distinct-added, distinct-without, formed-added, formed-without, without-shorter, without-absent}
+use Rattle.records.proofs.RestingLaws.{SoundResting, resting-test, resting-is-packed, none-rests}
 
 -- ---- the list and the side that holds it
-
-one-less : (k : ℕ) → k < records → records - k ≡ suc (records - (k + 1))
-one-less k p = omega arith
 
 -- a record put behind the live ones
 abbrev pub appended : Records → Record → Records
@@ -35,7 +35,7 @@ pack-places l f = rows-side (length l) (l ++ replicate (records - length l) unus
 
 pub appended-pack : (l : List Record) (r : Record) → Storable l → length l < records → appended (pack l) r ≡ pack (l ++ r ∷ [])
 appended-pack l r f p =
-    let e = one-less (length l) p in
+    let e = one-less records (length l) p in
     rw (pack-places l f) (simp (e, set-append-seam, length-append, append-assoc))
 
 pub view-storable : (s : Records) → Storable (view s)
@@ -137,26 +137,29 @@ module _ {s : Records} (h : Sound s) where
   pub retired-absent : (n : ℕ) → member n (view s) ≡ false → retired s n ≡ s
   retired-absent n gone = ap pack (without-absent n (view s) gone) ∙ sym (h .packed)
 
--- ---- a sound state: each law is the law of a side
+-- ---- a sound state: each law is the law of a part
 
-pub record SoundBoth (s : State) : Type 0 where
+pub record SoundParts (s : State) : Type 0 where
   pub own : Sound (s .own)
   pub peer : Sound (s .peer)
+  pub resting : SoundResting (view (s .own)) (s .resting)
 
-pub fresh-is-sound : SoundBoth fresh
+pub fresh-is-sound : SoundParts fresh
 fresh-is-sound =
     let side = packed-is-sound [] (omega arith) refl refl in
-    record { own = side; peer = side }
+    record { own = side; peer = side; resting = none-rests [] }
 
-module _ {s : State} (h : SoundBoth s) where
+module _ {s : State} (h : SoundParts s) where
   pub sound-state : soundState s ≡ true
-  sound-state = and-true (h .own .test) (h .peer .test)
+  sound-state = and-true (h .own .test) (and-true (h .peer .test) (resting-test (h .resting)))
 
--- validates `soundState`: where each field has its 32 places, as it has in code, a sound state is its live records with unused places behind
-pub sound-state-packed : (s : State) → length (s .own .ids) ≡ records → Even (s .own) → length (s .peer .ids) ≡ records → Even (s .peer)
-    → soundState s ≡ true → s ≡ record { own = pack (view (s .own)); peer = pack (view (s .peer)) }
-sound-state-packed s p q u v h =
-    let own = sound-is-packed (s .own) p q (and-left (soundRecords (s .own)) (soundRecords (s .peer)) h) in
-    let peer = sound-is-packed (s .peer) u v (and-right (soundRecords (s .own)) (soundRecords (s .peer)) h) in
-    let e : _≡_ {A = State} (record { own = s .own; peer = s .peer }) (record { own = pack (view (s .own)); peer = pack (view (s .peer)) }) = cc in
+-- validates `soundState`: where each field has its places, as it has in code, a sound state is its lists with unused places behind
+pub sound-state-packed : (s : State) → length (s .own .ids) ≡ records → Even (s .own) → length (s .peer .ids) ≡ records → Even (s .peer) → length (s .resting .ids) ≡ resting
+    → soundState s ≡ true → s ≡ record { own = pack (view (s .own)); peer = pack (view (s .peer)); resting = packIds (viewIds (s .resting)) }
+sound-state-packed s p q u v w h =
+    let behind = and-right (soundRecords (s .own)) _ h in
+    let own = sound-is-packed (s .own) p q (and-left (soundRecords (s .own)) _ h) in
+    let peer = sound-is-packed (s .peer) u v (and-left (soundRecords (s .peer)) _ behind) in
+    let rest = resting-is-packed (view (s .own)) (s .resting) w (and-right (soundRecords (s .peer)) _ behind) in
+    let e : _≡_ {A = State} (record { own = s .own; peer = s .peer; resting = s .resting }) (record { own = pack (view (s .own)); peer = pack (view (s .peer)); resting = packIds (viewIds (s .resting)) }) = cc in
     e

@@ -1,18 +1,18 @@
-// Fields of a side, lent as lists of numbers.
+// Fields of a state's parts, lent as lists of numbers.
 ghost use mathlib.Core.Path.{_≡_};
-ghost use mathlib.Core.Bool.{_&&_};
 ghost use mathlib.Core.List.{List};
 ghost use Prim.Native.Nat.{ℕ, _≤_, _<_};
 ghost use lib.ListN.{length, take, drop};
 ghost use Rattle.records.specs.Records.{isLocal, stored, codeOf, rows, formed};
-ghost use Rattle.records.specs.Steps.{isAmong, areApart, flags, flagOf, allZero};
+ghost use Rattle.records.specs.Resting.{among, eachOnce, allZero};
+ghost use Rattle.records.specs.Steps.{flags, flagOf, noneAmong};
 use codes::Code;
 use codes::Name;
 
 // Whether the id is among these. The walk is not left early, so that ids are read several at a time.
 pub(crate) fn among(n: usize, ids: &[u32], id: u32) -> bool
     requires { ⌜ n ≤ length (now ids) ⌝ }
-    ensures { λ r. ⌜ r ≡ isAmong id (take n (now (ids .entry))) ⌝ }
+    ensures { λ r. ⌜ r ≡ among id (take n (now (ids .entry))) ⌝ }
 {
     let mut found = false;
     let mut i: usize = 0;
@@ -23,6 +23,21 @@ pub(crate) fn among(n: usize, ids: &[u32], id: u32) -> bool
         i += 1;
     }
     found
+}
+
+// Whether none of the first ids is among the second.
+pub(crate) fn none_among<'a>(n: usize, ids: &'a [u32], m: usize, others: &'a [u32]) -> bool
+    requires { ⌜ (n ≤ length (now ids)) × (m ≤ length (now others)) ⌝ }
+    ensures { λ r. ⌜ r ≡ noneAmong (take n (now (ids .entry))) (take m (now (others .entry))) ⌝ }
+{
+    let mut i: usize = 0;
+    while i < n {
+        if among(m, others, ids[i]) {
+            return false;
+        }
+        i += 1;
+    }
+    true
 }
 
 // How many flags ids share.
@@ -37,9 +52,9 @@ fn flag(id: u32) -> usize
 
 // Whether no id stands twice: a search over the pairs of ids, left at the first repeated one. An id is compared with those behind it only if
 // one of them has set its flag.
-pub(crate) fn apart(n: usize, ids: &[u32]) -> bool
+fn apart(n: usize, ids: &[u32]) -> bool
     requires { ⌜ n ≤ length (now ids) ⌝ }
-    ensures { λ r. ⌜ r ≡ areApart (take n (now (ids .entry))) ⌝ }
+    ensures { λ r. ⌜ r ≡ eachOnce (take n (now (ids .entry))) ⌝ }
 {
     let mut set = [false; FLAGS];
     let mut once = true;
@@ -63,29 +78,51 @@ pub(crate) fn apart(n: usize, ids: &[u32]) -> bool
     once
 }
 
-// Whether both lists hold 0 from `from` on. The walk is not left early, so that places are read several at a time.
-pub(crate) fn are_ids_clear<'a>(from: usize, ids: &'a [u32], lengths: &'a [u8]) -> bool
-    requires { ⌜ length (now ids) ≡ length (now lengths) ⌝ }
-    ensures { λ r. ⌜ r ≡ (allZero (drop from (now (ids .entry))) && allZero (drop from (now (lengths .entry)))) ⌝ }
+// The same; fewer than two ids have no pair to search.
+pub(crate) fn each_once(n: usize, ids: &[u32]) -> bool
+    requires { ⌜ n ≤ length (now ids) ⌝ }
+    ensures { λ r. ⌜ r ≡ eachOnce (take n (now (ids .entry))) ⌝ }
+{
+    if n < 2 {
+        return true;
+    }
+    apart(n, ids)
+}
+
+// Whether the ids from `from` on are 0. The walk is not left early, so that places are read several at a time.
+pub(crate) fn are_ids_clear(from: usize, ids: &[u32]) -> bool
+    ensures { λ r. ⌜ r ≡ allZero (drop from (now (ids .entry))) ⌝ }
 {
     let mut used: u32 = 0;
     let mut i = from;
     while i < ids.len() {
-        used = used | (ids[i] | (lengths[i] as u32));
+        used = used | ids[i];
         i += 1;
     }
     used == 0
 }
 
-// The same of two lists of words.
-pub(crate) fn are_words_clear<'a>(from: usize, highs: &'a [u64], lows: &'a [u64]) -> bool
-    requires { ⌜ length (now highs) ≡ length (now lows) ⌝ }
-    ensures { λ r. ⌜ r ≡ (allZero (drop from (now (highs .entry))) && allZero (drop from (now (lows .entry)))) ⌝ }
+// The same of lengths.
+pub(crate) fn are_lengths_clear(from: usize, lengths: &[u8]) -> bool
+    ensures { λ r. ⌜ r ≡ allZero (drop from (now (lengths .entry))) ⌝ }
+{
+    let mut used: u8 = 0;
+    let mut i = from;
+    while i < lengths.len() {
+        used = used | lengths[i];
+        i += 1;
+    }
+    used == 0
+}
+
+// The same of words.
+pub(crate) fn are_words_clear(from: usize, words: &[u64]) -> bool
+    ensures { λ r. ⌜ r ≡ allZero (drop from (now (words .entry))) ⌝ }
 {
     let mut used: u64 = 0;
     let mut i = from;
-    while i < highs.len() {
-        used = used | (highs[i] | lows[i]);
+    while i < words.len() {
+        used = used | words[i];
         i += 1;
     }
     used == 0

@@ -2,22 +2,22 @@
 ghost use mathlib.Core.Path.{_≡_};
 ghost use mathlib.Core.List.{List};
 ghost use mathlib.Core.Bool.{cond};
-ghost use Prim.Native.Nat.{ℕ, _≤_};
+ghost use Prim.Native.Nat.{ℕ};
 ghost use lib.Dec.{ltb};
 ghost use lib.ListN.{length, take};
 ghost use Rattle.records.specs.Limits.{records};
 ghost use Rattle.records.specs.Records.{codeOf, nameIn, lent, view, lookup, member, soundRecords};
-ghost use Rattle.records.specs.Steps.{cleanRecords};
 use crate::Found;
 use crate::OwnId;
 use crate::PeerId;
 use crate::State;
 use crate::fields::among;
-use crate::fields::apart;
 use crate::fields::are_formed;
 use crate::fields::are_ids_clear;
+use crate::fields::are_lengths_clear;
 use crate::fields::are_words_clear;
 use crate::fields::code_of;
+use crate::fields::each_once;
 use codes::Code;
 use codes::Name;
 
@@ -117,22 +117,7 @@ pub fn has_peer(count: usize, ids: &[u32; State::RECORDS], id: PeerId) -> bool
     holds(count, ids, id.0)
 }
 
-// Whether the codes of the live records have their form and the places behind them are unused.
-fn is_clean<'a>(
-    count: usize,
-    ids: &'a [u32; State::RECORDS],
-    lengths: &'a [u8; State::RECORDS],
-    highs: &'a [u64; State::RECORDS],
-    lows: &'a [u64; State::RECORDS],
-) -> bool
-    requires { ⌜ count ≤ records ⌝ }
-    ensures { λ r. ⌜ r ≡ cleanRecords (lent count (now (ids .entry)) (now (lengths .entry)) (now (highs .entry)) (now (lows .entry))) ⌝ }
-{
-    are_formed(count, lengths, highs, lows)
-        & (are_ids_clear(count, ids, lengths) & are_words_clear(count, highs, lows))
-}
-
-// Whether a side is sound; fewer than two records have no pair to search.
+// Whether a side is sound.
 pub fn sound<'a>(
     count: usize,
     ids: &'a [u32; State::RECORDS],
@@ -145,11 +130,9 @@ pub fn sound<'a>(
     if State::RECORDS < count {
         return false;
     }
-    if count < 2 {
-        return is_clean(count, ids, lengths, highs, lows);
-    }
-    if apart(count, ids) {
-        return is_clean(count, ids, lengths, highs, lows);
-    }
-    false
+    each_once(count, ids)
+        & (are_formed(count, lengths, highs, lows)
+            & (are_ids_clear(count, ids)
+                & (are_lengths_clear(count, lengths)
+                    & (are_words_clear(count, highs) & are_words_clear(count, lows)))))
 }

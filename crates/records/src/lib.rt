@@ -1,6 +1,7 @@
-// The records of one side, the invocations that are live: document 01, 'Records'; document 02, Five. Both sides together are the state, in sides.rt.
+// The records of one side, the invocations that are live: document 01, 'Records'; document 02, Five. Both sides and the ids that rest are the state, in sides.rt.
 mod fields;
 pub mod lent;
+pub mod rest;
 mod sides;
 
 ghost use mathlib.Core.Path.{_≡_};
@@ -31,9 +32,16 @@ pub struct Records {
     pub lows: [u64; State::RECORDS],
 }
 
+// The own ids that were forgotten last, oldest first: document 02, Six. Places from `count` on are unused.
+pub struct Resting {
+    pub count: usize,
+    pub ids: [u32; State::RESTING],
+}
+
 pub struct State {
     pub own: Records,
     pub peer: Records,
+    pub resting: Resting,
 }
 
 pub enum Found {

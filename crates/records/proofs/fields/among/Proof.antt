@@ -6,13 +6,13 @@ use mathlib.Core.Path.{_≡_, refl}
 use mathlib.Core.Bool.{_||_}
 use mathlib.Core.Logic.{⊎-elim}
 use lib.ListN.{take, drop}
-use Rattle.records.specs.Steps.{isAmong}
+use Rattle.records.specs.Resting.{among}
 use Rattle.records.proofs.Numbers.{found-here, found-next, found-ended}
 use Rattle.records.proofs.fields.among.Statement.{statement}
 use Rattle.records.proofs.fields.among.Tie as tie
 
 abbrev Inv-loop : tie.InvT-loop
-Inv-loop n ids id found₀ i₀ found i = (i ≤ n) × ((found || isAmong id (drop i (take n ids))) ≡ isAmong id (take n ids))
+Inv-loop n ids id found₀ i₀ found i = (i ≤ n) × ((found || among id (drop i (take n ids))) ≡ among id (take n ids))
 
 abbrev μ-loop : tie.MeasureT-loop
 μ-loop n ids id found₀ i₀ found i = n - i

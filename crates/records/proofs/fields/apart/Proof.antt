@@ -7,20 +7,21 @@ use mathlib.Core.Path.{_≡_, refl, sym, ap, subst, _∙_}
 use mathlib.Core.Bool.{true, false}
 use mathlib.Core.Logic.{⊎-elim}
 use lib.ListN.{length, take, drop, getD, length-set}
-use Rattle.records.specs.Steps.{isAmong, areApart, flags, flagOf}
+use Rattle.records.specs.Resting.{among, eachOnce}
+use Rattle.records.specs.Steps.{flags, flagOf}
 use Rattle.records.proofs.Numbers.{marked, marked-more, marked-none, unmarked-is-absent, among-here, among-next, among-none, apart-once, apart-twice, apart-none}
 use Rattle.records.proofs.fields.apart.Statement.{statement}
 use Rattle.records.proofs.fields.apart.Tie as tie
 
 abbrev Inv-loop : tie.InvT-loop
-Inv-loop n ids set once₀ i id k j₀ once j = (j ≤ n) × (once ≡ true) × (isAmong id (drop (i + 1) (take n ids)) ≡ isAmong id (drop j (take n ids)))
+Inv-loop n ids set once₀ i id k j₀ once j = (j ≤ n) × (once ≡ true) × (among id (drop (i + 1) (take n ids)) ≡ among id (drop j (take n ids)))
 
 abbrev μ-loop : tie.MeasureT-loop
 μ-loop n ids set once₀ i id k j₀ once j = n - j
 
 abbrev Inv-pairs : tie.InvT-pairs
 Inv-pairs n ids set₀ once₀ i₀ set once i =
-    (i ≤ n) × (once ≡ true) × (areApart (drop i (take n ids)) ≡ true) × (marked set (drop i (take n ids)) ≡ true) × (length set ≡ flags)
+    (i ≤ n) × (once ≡ true) × (eachOnce (drop i (take n ids)) ≡ true) × (marked set (drop i (take n ids)) ≡ true) × (length set ≡ flags)
 
 abbrev μ-pairs : tie.MeasureT-pairs
 μ-pairs n ids set₀ once₀ i₀ set once i = i
@@ -44,9 +45,9 @@ pairs-again c =
     let ids = b .ids .now in let n = b .n in let i = a .pairs .i - 1 in let id = getD ids i 0 in
     let back : a .pairs .i ≡ i + 1 = omega arith in
     let same : f .flag .result ≡ flagOf id = f .flag .ensures .0 in
-    let once : areApart (drop (i + 1) (take n ids)) ≡ true = subst (λ (k : ℕ). areApart (drop k (take n ids)) ≡ true) back (a .pairs .inv .2) in
+    let once : eachOnce (drop (i + 1) (take n ids)) ≡ true = subst (λ (k : ℕ). eachOnce (drop k (take n ids)) ≡ true) back (a .pairs .inv .2) in
     let flagged : marked (a .pairs .set) (drop (i + 1) (take n ids)) ≡ true = subst (λ (k : ℕ). marked (a .pairs .set) (drop k (take n ids)) ≡ true) back (a .pairs .inv .3) in
-    let absent : isAmong id (drop (i + 1) (take n ids)) ≡ false =
+    let absent : among id (drop (i + 1) (take n ids)) ≡ false =
     ⊎-elim
     (λ w. w .1 .inv .2 ∙ among-none ids n (w .1 .j) (w .2 .left) id)
     (λ w. unmarked-is-absent (a .pairs .set) (drop (i + 1) (take n ids)) id flagged (ap (λ (k : ℕ). getD (a .pairs .set) k false) (sym same) ∙ w .0 .left))
@@ -62,7 +63,7 @@ returns : tie.Need-returns Inv-loop μ-loop Inv-pairs μ-pairs
 returns c =
     let a = c .before in let b = a .before .before .args in
     let all : a .pairs .i ≡ 0 = omega arith in
-    a .pairs .inv .1 ∙ sym (subst (λ (k : ℕ). areApart (drop k (take (b .n) (b .ids .now))) ≡ true) all (a .pairs .inv .2))
+    a .pairs .inv .1 ∙ sym (subst (λ (k : ℕ). eachOnce (drop k (take (b .n) (b .ids .now))) ≡ true) all (a .pairs .inv .2))
 
 returns-2 : tie.Need-returns-2 Inv-loop μ-loop Inv-pairs μ-pairs
 returns-2 c =

@@ -1,0 +1,36 @@
+-- The invariant: they are 0 just where no bit was set before i and they are 0 from i on. The measure: places left.
+use native.Mathlib.Omega.{arith}
+use Prim.Native.Nat.{_-_}
+use mathlib.Core.Path.{_≡_, refl, sym, _∙_}
+use mathlib.Core.Bool.{_&&_}
+use lib.ListN.{length, drop}
+use lib.Dec.{eqb}
+use Rattle.records.specs.Resting.{allZero}
+use Rattle.records.proofs.Steps.{zero-step, zero-ended}
+use borrow.Author.Needs.{needs}
+use Rattle.records.proofs.fields.are_lengths_clear.Statement.{statement}
+use Rattle.records.proofs.fields.are_lengths_clear.Tie as tie
+
+abbrev Inv-loop : tie.InvT-loop
+Inv-loop from lengths used₀ i₀ used i = allZero (drop from lengths) ≡ (eqb used 0 && allZero (drop i lengths))
+
+abbrev μ-loop : tie.MeasureT-loop
+μ-loop from lengths used₀ i₀ used i = length lengths - i
+
+loop-holds : tie.Need-loop-holds Inv-loop μ-loop
+loop-holds c = refl
+
+loop-again : tie.Need-loop-again Inv-loop μ-loop
+loop-again c =
+    let a = c .before .before in let b = a .before .args in
+    a .loop .inv ∙ zero-step (b .lengths .now) (a .loop .i) (a .loop .used) (omega arith)
+
+returns : tie.Need-returns Inv-loop μ-loop
+returns c =
+    let a = c .before in let b = a .before .args in
+    sym (a .loop .inv ∙ zero-ended (b .lengths .now) (a .loop .i) (a .loop .used) (omega arith))
+
+pub are-lengths-clear-spec : {M : Type 1} → statement M
+are-lengths-clear-spec =
+    tie.close
+    (tie.spec Inv-loop μ-loop loop-holds (λ c. search needs) (λ c. search needs) (λ c. search needs) loop-again returns)
