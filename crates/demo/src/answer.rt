@@ -89,12 +89,16 @@ fn indication_words(x: &[u8], said: Indication) {
     }
 }
 
-// A refusal's number, and the fields of the Reject behind an 18.
+// A refusal's number, the fields of the Reject behind an 18, and why an id that was forgotten is not asked with.
 pub(crate) fn refusal_words(why: Refusal) {
     number(b"refused with ", why.number() as u32);
-    if let Refusal::Rejected { id, .. } = why {
-        let problem = why.problem();
-        reject_words(b": ", id, problem.kind, problem.number);
+    match why {
+        Refusal::Rejected { id, .. } => {
+            let problem = why.problem();
+            reject_words(b": ", id, problem.kind, problem.number);
+        }
+        Refusal::IdResting => say(b": the id rests"),
+        _ => {}
     }
 }
 

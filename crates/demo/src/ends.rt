@@ -122,9 +122,14 @@ fn invoke(mut site: Site, table: &[u8], id: u32, code: Code) -> Site {
     site
 }
 
-// The kiosk invokes operation 7, and the controller receives it.
+// The kiosk invokes operation 7.
+pub(crate) fn ask_alone(site: Site, id: u32) -> Site {
+    invoke(site, &KIOSK, id, Code::Local(7))
+}
+
+// The same, and the controller receives it.
 pub(crate) fn ask(site: Site, id: u32) -> Site {
-    controller_reads(invoke(site, &KIOSK, id, Code::Local(7)))
+    controller_reads(ask_alone(site, id))
 }
 
 // The operation that has a name.

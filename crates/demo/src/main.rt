@@ -8,6 +8,7 @@ use day::close;
 use day::with_unknown;
 use ends::Site;
 use ends::ask;
+use ends::ask_alone;
 use ends::ask_by_name;
 use ends::ask_unlisted;
 use ends::controller_reads;
@@ -59,11 +60,14 @@ fn repeated(mut site: Site) -> Site {
 
 // Id 7 is left out, since it would read like operation 7.
 fn late(mut site: Site) -> Site {
-    say(b"\n6. A late answer: the old reading is not taken for the new one\n");
+    say(
+        b"\n6. A late answer: the forgotten id rests, so that the old reading is not taken for a new one\n",
+    );
     site = ask(site, 8);
     site = result(site, 8, b"\x02\x01\x11");
     say(b"   channel delays    this answer\n");
     site = forget(site, 8);
+    site = ask_alone(site, 8);
     site = ask(site, 9);
     say(b"   channel delivers  the answer to invocation 8\n");
     site = kiosk_reads(site);

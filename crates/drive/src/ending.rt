@@ -1,7 +1,8 @@
-// What stands behind the answer on a line: the state then, the lent output, the place of a fault and, where asked, the value's place.
+// What stands behind the answer on a line: the records then, the lent output, the place of a fault, the ids that rest and, where asked, the value's place.
 ghost use mathlib.Core.Path.{_≡_};
 ghost use lib.ListN.{length};
 use crate::output::is_spoiled;
+use crate::resting::resting_line;
 use crate::side::side_line;
 use apdu::Span;
 use apdu::Value;
@@ -16,7 +17,7 @@ use text::print;
 use text::put;
 use text::words;
 
-fn state_line(line: &mut [u8], at: usize, state: State) -> usize {
+fn records_line(line: &mut [u8], at: usize, state: State) -> usize {
     let a = words(line, at, b" own ");
     let b = side_line(
         line,
@@ -90,6 +91,11 @@ fn fault_line(line: &mut [u8], at: usize, place: usize) -> usize {
     decimal(line, a, place as u64)
 }
 
+fn rest_line(line: &mut [u8], at: usize, state: State) -> usize {
+    let a = words(line, at, b" rest ");
+    resting_line(line, a, state.resting.count, &state.resting.ids)
+}
+
 // The value's place in the received octets, where the run shows places.
 fn place_line(line: &mut [u8], at: usize, is_placed: bool, value: Value) -> usize {
     if !is_placed {
@@ -120,10 +126,11 @@ pub(crate) fn emit(
     is_placed: bool,
     value: Value,
 ) {
-    let a = state_line(line, at, state);
+    let a = records_line(line, at, state);
     let b = output_line(line, a, lent, written);
     let c = fault_line(line, b, place);
-    let d = place_line(line, c, is_placed, value);
-    let n = put(line, d, 10);
+    let d = rest_line(line, c, state);
+    let e = place_line(line, d, is_placed, value);
+    let n = put(line, e, 10);
     print(STDOUT_FILENO, line, n);
 }

@@ -7,6 +7,7 @@ mod complaint;
 mod ending;
 mod number;
 mod output;
+mod resting;
 mod script;
 mod side;
 
@@ -18,7 +19,9 @@ use calls::call;
 use complaint::argument_refused;
 use complaint::cut_short;
 use complaint::other_kind;
+use records::Records;
 use records::State;
+use resting::resting_image;
 use script::Decoded;
 use script::Header;
 use script::Source;
@@ -44,18 +47,30 @@ fn ended(mut s: Session) -> Session {
     s
 }
 
-// The state of an image, of 516 octets where no code is a name, else of 1,348; another length leaves the state as it was.
+// The state with these sides; what a shorter image lacks is as in the fresh state.
+fn sided(own: Records, peer: Records) -> State {
+    let mut state = State::fresh();
+    state.own = own;
+    state.peer = peer;
+    state
+}
+
+// The state of an image: of 516 octets where no code is a name, of 1,348, or of 1,606 with the ids that rest; another length leaves the state as it was.
 fn imaged(payload: &[u8], mut s: Session) -> Session {
-    if payload.len() == 516 {
-        let own = local_image(between(payload, 0, 258));
-        let peer = local_image(between(payload, 258, 516));
-        let state = State { own, peer };
-        s.state = state;
+    let n = payload.len();
+    if n == 516 {
+        s.state = sided(
+            local_image(between(payload, 0, 258)),
+            local_image(between(payload, 258, 516)),
+        );
+        return s;
     }
-    if payload.len() == 1348 {
-        let own = side_image(between(payload, 0, 674));
-        let peer = side_image(between(payload, 674, 1348));
-        let state = State { own, peer };
+    if n == 1348 || n == 1606 {
+        let mut state = sided(
+            side_image(between(payload, 0, 674)),
+            side_image(between(payload, 674, 1348)),
+        );
+        state.resting = resting_image(between(payload, 1348, n));
         s.state = state;
     }
     s

@@ -56,7 +56,7 @@ fn place(line: &mut [u8], at: usize, id: u32, name: Name, is_shown: bool) -> usi
     stored_digits(line, c, name)
 }
 
-fn four_digits(line: &mut [u8], at: usize, x: usize) -> usize {
+pub(crate) fn four_digits(line: &mut [u8], at: usize, x: usize) -> usize {
     let a = octet(line, at, (x / 256 % 256) as u8);
     octet(line, a, (x % 256) as u8)
 }

@@ -123,12 +123,15 @@ days =
     -- an own invocation is forgotten once; a third side fits no call
     ∷ laid (sent asks ∷ forgot (forgets 0) ∷ forgot (forgets 0) ∷ [])
     ∷ laid (sent asks ∷ forgot (forgets 2) ∷ [])
+    -- an id that was answered may be asked with again; one that was forgotten rests, and its late answer leaves it resting
+    ∷ laid (sent asks ∷ received answers ∷ sent asks ∷ [])
+    ∷ laid (sent asks ∷ forgot (forgets 0) ∷ received answers ∷ sent refuses ∷ sent asks ∷ [])
     -- the id is in use, so that the second entry differs: but the capture has an octet behind the end
     ∷ (laid (sent asks ∷ sent asks ∷ []) ++ (0 ∷ []))
     ∷ []
 
 abbrev verdicts : List Verdict
-verdicts = agree 0 ∷ agree 4 ∷ agree 2 ∷ differsAt 3 ∷ differsAt 3 ∷ differsAt 2 ∷ agree 2 ∷ differsAt 2 ∷ differsAt 1 ∷ refusedWith 20 ∷ []
+verdicts = agree 0 ∷ agree 4 ∷ agree 2 ∷ differsAt 3 ∷ differsAt 3 ∷ differsAt 2 ∷ agree 2 ∷ differsAt 2 ∷ differsAt 1 ∷ agree 3 ∷ differsAt 4 ∷ refusedWith 20 ∷ []
 
 abbrev namedDays : List (List ℕ)
 namedDays =

@@ -11,6 +11,7 @@ use Rattle.codes.specs.declared.Code.{Code}
 use Rattle.codes.specs.Code.{codeRight}
 use Rattle.records.specs.declared.State.{State}
 use Rattle.records.specs.Records.{member}
+use Rattle.records.specs.Resting.{among}
 use Rattle.optable.specs.declared.Rule.{Rule}
 use Rattle.optable.specs.Validity.{valid}
 use Rattle.optable.specs.Lookup.{operationOf, listed, resultOf, errorOf, known, parameterOf, paired, childOf}
@@ -23,8 +24,8 @@ use Rattle.apdu.specs.declared.CodeField.the-variants.{Is, Other}
 use Rattle.apdu.specs.Field.{Part}
 use Rattle.apdu.specs.Parse.{CodedValue}
 use Rattle.apdu.specs.Encode.{encodeInvoke, encodeError, encodeReject}
-use Rattle.protocol.specs.Call.{Call, invoke, result, error, reject}
-use Rattle.protocol.specs.Check.{ownRecords, peerRecords, codeIn, isFull, classIn, isSilent, isClass, isLinked, linkedTo, usable, inApdu, inBody, withinLimits, tooShort}
+use Rattle.protocol.specs.Call.{own, Call, invoke, result, error, reject, forget}
+use Rattle.protocol.specs.Check.{ownRecords, peerRecords, restingIds, codeIn, isFull, classIn, isSilent, isClass, isLinked, linkedTo, usable, inApdu, inBody, withinLimits, tooShort}
 use Rattle.protocol.specs.Receive.{fieldCode, isOperation, invokeChecks, resultChecks, errorChecks}
 use Rattle.protocol.specs.Perform.{laterChecks, checks, resultApdu}
 use Rattle.protocol.proofs.Checks.{Pass, passed}
@@ -39,6 +40,7 @@ pub record Sendable (down : ℕ) (v x : List ℕ) (room : ℕ) : Type 0 where
 pub record InvokeFacts (T : List ℕ) (s : State) (i : ℕ) (c : Code) (l : Number) (v : List ℕ) (room : ℕ) : Type 0 where
   pub known : listed (operationOf T c) ≡ true
   pub new : member i (ownRecords s) ≡ false
+  pub free : among i (restingIds s) ≡ false
   pub parent : (isLinked l && not (member (linkedTo l) (peerRecords s))) ≡ false
   pub child : (isLinked l && not (childOf T (codeIn (peerRecords s) (linkedTo l)) c)) ≡ false
   pub vacant : (not (isSilent T c) && isFull (ownRecords s)) ≡ false
@@ -59,6 +61,7 @@ module _ (T : List ℕ) (s : State) (i : ℕ) (v : List ℕ) (room : ℕ) where
       record {
         known = not-false _ (by 4);
         new = by 5;
+        free = by 22;
         parent = by 7;
         child = by 8;
         vacant = by 14;
@@ -90,6 +93,10 @@ module _ (T : List ℕ) (s : State) (i : ℕ) (v : List ℕ) (room : ℕ) where
 pub reject-fits : (T : List ℕ) (s : State) (i p room : ℕ) → Pass (checks T s (reject i p room)) → tooShort room (encodeReject (Of i) 0x81 p) ≡ false
 unfolding laterChecks
 reject-fits T s i p room h = passed (checks T s (reject i p room)) h 2
+
+pub forgotten-live : (T : List ℕ) (s : State) (i : ℕ) → Pass (checks T s (forget own i)) → member i (ownRecords s) ≡ true
+unfolding laterChecks
+forgotten-live T s i h = not-false _ (passed (checks T s (forget own i)) h 11)
 
 -- a call that passed its checks has a valid table
 pub table-valid : (T : List ℕ) (s : State) (c : Call) → Pass (checks T s c) → valid T ≡ true

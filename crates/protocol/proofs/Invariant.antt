@@ -10,6 +10,8 @@ use Rattle.codes.specs.declared.Code.{Code}
 use Rattle.records.specs.declared.Record.{Record}
 use Rattle.records.specs.Limits.{octets}
 use Rattle.records.specs.State.{fresh}
+use Rattle.records.specs.Resting.{among, eachOnce}
+use Rattle.records.proofs.IdLaws.{never-both}
 use Rattle.optable.specs.Lookup.{operationOf, resultOf, errorOf, parameterOf}
 use Rattle.optable.specs.Value.{valueRight}
 use Rattle.apdu.specs.declared.Number.{Number}
@@ -20,9 +22,8 @@ use Rattle.apdu.specs.Parse.{Apdu, parse, invoke as Invoke, result as Result, e
 use Rattle.apdu.proofs.RoundTrip.{bodyOf}
 use Rattle.protocol.specs.Check.{classIn, isClass, ownRecords, peerRecords}
 use Rattle.protocol.specs.Receive.{fieldCode}
-use Rattle.protocol.specs.Book.{idsOf, among, eachOnce, kiosk, controller, aResult, anError, Given, Wired, wired, Answered, World, begin}
+use Rattle.protocol.specs.Book.{idsOf, kiosk, controller, aResult, anError, Given, Wired, wired, Answered, World, begin}
 use Rattle.apdu.proofs.FieldRoundTrip.{CodeFits}
-use Rattle.protocol.proofs.Ids.{never-both}
 use Rattle.protocol.proofs.Steady.{Steady, steady-fresh}
 
 -- ---- the parts

@@ -12,13 +12,15 @@ use Rattle.base.proofs.Tests.{or-cases}
 use Rattle.codes.specs.declared.Code.{Code}
 use Rattle.records.specs.declared.Record.{Record}
 use Rattle.records.specs.Records.{member, without}
+use Rattle.records.specs.Resting.{among, eachOnce}
+use Rattle.records.proofs.IdLaws.{never-both, among-added, once-added}
 use Rattle.apdu.specs.Parse.{invoke as Invoke}
 use Rattle.apdu.proofs.FirstOctet.{first-read}
 use Rattle.protocol.specs.Check.{codeIn}
 use Rattle.protocol.specs.Receive.{fieldCode}
-use Rattle.protocol.specs.Book.{idsOf, among, leaving, eachOnce, End, kiosk, controller, Wired, wired, Answered, wiring}
+use Rattle.protocol.specs.Book.{idsOf, leaving, End, kiosk, controller, Wired, wired, Answered, wiring}
 use Rattle.apdu.proofs.FieldRoundTrip.{CodeFits}
-use Rattle.protocol.proofs.Ids.{never-both, among-leaving, among-left, among-added, once-added, ids-added, ids-without, member-among, in-without, in-member, in-code}
+use Rattle.protocol.proofs.Ids.{among-leaving, among-left, ids-added, ids-without, member-among, in-without, in-member, in-code}
 use Rattle.protocol.proofs.Invariant.{Ours, Spoken, Known, NoAnswer, Sent}
 
 -- ---- the wire

@@ -13,6 +13,7 @@ use Rattle.records.specs.declared.Found.{Found}
 use Rattle.records.specs.declared.Found.the-variants.{Operation, Nothing}
 use Rattle.records.specs.Records.{member, lookup}
 use Rattle.records.proofs.Laws.{nothing-is-absent, found-is-member}
+use Rattle.records.proofs.IdLaws.{never-both}
 use Rattle.optable.specs.Lookup.{childOf}
 use Rattle.optable.proofs.TableLaws.{child-parent}
 use Rattle.apdu.specs.declared.Number.{Number}
@@ -25,7 +26,6 @@ use Rattle.protocol.specs.Receive.{invokeChecks}
 use Rattle.protocol.specs.Perform.{checks}
 use Rattle.protocol.proofs.Checks.{Pass, failing}
 use Rattle.protocol.proofs.Facts.{invoke-facts}
-use Rattle.protocol.proofs.Ids.{never-both}
 
 member-same : (n : ℕ) (l m : List Record) → lookup n m ≡ lookup n l → member n l ≡ true → member n m ≡ true
 member-same n l m e h = go (lookup n m) refl

@@ -13,6 +13,7 @@ use Rattle.records.specs.Limits.{octets}
 use Rattle.records.specs.Records.{member}
 use Rattle.codes.proofs.CodeLaws.{equal-code-same}
 use Rattle.records.proofs.Soundness.{sound-state}
+use Rattle.records.specs.Resting.{among}
 use Rattle.optable.specs.Validity.{valid}
 use Rattle.optable.specs.Lookup.{Extends, operationOf, errorOf, known, paired}
 use Rattle.optable.proofs.TableLaws.{paired-known}
@@ -25,7 +26,7 @@ use Rattle.protocol.specs.Call.{receive, rejecting, refused, isRefused}
 use Rattle.protocol.specs.Check.{codeIn, classIn, isClass, ownRecords, leastRoom}
 use Rattle.protocol.specs.Receive.{otherCode, resultChecks, errorChecks, receiveApdu}
 use Rattle.protocol.specs.Perform.{laterChecks, checks, done, perform}
-use Rattle.protocol.specs.Book.{among, kiosk, Given, World}
+use Rattle.protocol.specs.Book.{kiosk, Given, World}
 use Rattle.protocol.specs.Demand3.{isLive, Listed, unlistedProblem, AnswerClaim, Reaches}
 use Rattle.protocol.proofs.Checks.{Pass, pass, accepted-passes}
 use Rattle.protocol.proofs.Facts.{ArrivedError, arrived-result, arrived-error}

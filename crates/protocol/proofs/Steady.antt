@@ -1,6 +1,6 @@
 -- One end, call after call: every state that it reaches is sound and usable with its table, so 19 and 1 are never given.
 use Prim.Native.Nat.{ℕ, _<_}
-use mathlib.Core.Path.{_≡_, refl, ap, _∙_}
+use mathlib.Core.Path.{_≡_, refl, sym, subst, ap, _∙_}
 use mathlib.Core.Bool.{Bool, true, false, not, _&&_}
 use mathlib.Core.List.{List, [], _∷_}
 use lib.ListN.{length, getD}
@@ -14,8 +14,10 @@ use Rattle.records.specs.declared.Records.{Records}
 use Rattle.records.specs.declared.State.{State}
 use Rattle.records.specs.Limits.{records}
 use Rattle.records.specs.Records.{view, member, added, retired}
-use Rattle.records.specs.State.{fresh, soundState, addOwn, addPeer, retireOwn, retirePeer}
-use Rattle.records.proofs.Soundness.{Sound, SoundBoth, view-retired, view-added, added-is-sound, retired-is-sound, fresh-is-sound, sound-state}
+use Rattle.records.specs.Resting.{among, rested}
+use Rattle.records.specs.State.{fresh, soundState, addOwn, addPeer, retireOwn, retirePeer, forgetOwn}
+use Rattle.records.proofs.RestingLaws.{SoundResting, rest-retired, rest-added, rest-forgotten}
+use Rattle.records.proofs.Soundness.{Sound, SoundParts, view-retired, view-added, added-is-sound, retired-is-sound, fresh-is-sound, sound-state}
 use Rattle.optable.specs.Validity.{valid}
 use Rattle.optable.specs.Lookup.{operationOf, listed}
 use Rattle.optable.proofs.NameLaws.{listed-code-right}
@@ -23,12 +25,12 @@ use Rattle.apdu.specs.declared.Number.{Number}
 use Rattle.apdu.specs.declared.Number.the-variants.{Of, Absent}
 use Rattle.apdu.specs.Parse.{Apdu, badlyStructured, unrecognized, mistyped, parse, invoke as Invoke, result as Result, error as Error, reject as Reject}
 use Rattle.protocol.specs.Call.{own, peer, Call, receive, invoke, result, error, reject, forget, Refusal, plain, rejecting, refused, stateAfter}
-use Rattle.protocol.specs.Check.{covered, usable, isSilent, isFull, ownRecords, peerRecords}
+use Rattle.protocol.specs.Check.{covered, usable, isSilent, isFull, ownRecords, peerRecords, restingIds}
 use Rattle.protocol.specs.Receive.{fieldCode, fault, invokeChecks, resultChecks, errorChecks, withPeer, receiveApdu}
 use Rattle.protocol.specs.Perform.{laterChecks, checks, done, perform, withOwn}
 use Rattle.protocol.specs.End.{gives, Fit, EachFit, OneEnd}
 use Rattle.protocol.proofs.Checks.{Pass, settle, never-given, avoids}
-use Rattle.protocol.proofs.Facts.{invoke-facts, arrived-invoke, table-valid, operation-listed}
+use Rattle.protocol.proofs.Facts.{invoke-facts, forgotten-live, arrived-invoke, table-valid, operation-listed}
 use Rattle.protocol.proofs.Coverage.{covered-without, covered-added}
 
 module _ (T : List ℕ) where
@@ -60,38 +62,58 @@ module _ (T : List ℕ) where
       true-false e = let z : _≡_ {A = ℕ} 0 1 = cc in omega arith
   room-left false l e h = leb-false records (length l) h
 
-  -- ---- both sides
+  -- ---- both sides, and the ids that rest
 
   pub record Steady (s : State) : Type 0 where
     pub own : SteadySide (s .own)
     pub peer : SteadySide (s .peer)
+    pub resting : SoundResting (ownRecords s) (s .resting)
 
   pub steady-fresh : Steady fresh
   steady-fresh = record {
     own = record { sound = fresh-is-sound .own; known = refl };
     peer = record { sound = fresh-is-sound .peer; known = refl };
+    resting = fresh-is-sound .resting;
   }
 
-  pub steady-sound : {s : State} → Steady s → SoundBoth s
-  steady-sound h = record { own = h .own .sound; peer = h .peer .sound }
+  pub steady-sound : {s : State} → Steady s → SoundParts s
+  steady-sound h = record { own = h .own .sound; peer = h .peer .sound; resting = h .resting }
 
   steady-own-retired : {s : State} (i : ℕ) → Steady s → Steady (retireOwn s (record { 0 = i }))
-  steady-own-retired i h = record { own = side-retired i (h .own); peer = h .peer }
+  steady-own-retired {s} i h = record {
+    own = side-retired i (h .own);
+    peer = h .peer;
+    resting = subst (λ (l : List Record). SoundResting l (s .resting)) (sym (view-retired (s .own) i)) (rest-retired (h .resting) i);
+  }
+
+  steady-own-forgotten : {s : State} (i : ℕ) → member i (ownRecords s) ≡ true → Steady s → Steady (forgetOwn s (record { 0 = i }))
+  steady-own-forgotten {s} i live h = record {
+    own = side-retired i (h .own);
+    peer = h .peer;
+    resting = subst (λ (l : List Record). SoundResting l (rested (s .resting) i)) (sym (view-retired (s .own) i)) (rest-forgotten i live (h .resting));
+  }
 
   steady-peer-retired : {s : State} (i : ℕ) → Steady s → Steady (retirePeer s (record { 0 = i }))
-  steady-peer-retired i h = record { own = h .own; peer = side-retired i (h .peer) }
+  steady-peer-retired i h = record { own = h .own; peer = side-retired i (h .peer); resting = h .resting }
 
-  steady-own-added : (s : State) (i : ℕ) (c : Code) → member i (ownRecords s) ≡ false → valid T ≡ true → listed (operationOf T c) ≡ true → (not (isSilent T c) && isFull (ownRecords s)) ≡ false
+  steady-own-added : (s : State) (i : ℕ) (c : Code) → member i (ownRecords s) ≡ false → among i (restingIds s) ≡ false → valid T ≡ true → listed (operationOf T c) ≡ true → (not (isSilent T c) && isFull (ownRecords s)) ≡ false
       → Steady s → Steady (withOwn T s i c)
-  steady-own-added s i c new v known room h =
+  steady-own-added s i c new free v known room h =
+      let r : Record = record { id = i; code = c } in
       cond-elim Steady (isSilent T c) s (addOwn s (record { 0 = i }) c) (λ _. h)
-      (λ e. record { own = side-added (record { id = i; code = c }) new v known (room-left (isSilent T c) (ownRecords s) e room) (h .own); peer = h .peer })
+      (λ e.
+      let vacant = room-left (isSilent T c) (ownRecords s) e room in
+      record {
+        own = side-added r new v known vacant (h .own);
+        peer = h .peer;
+        resting = subst (λ (l : List Record). SoundResting l (s .resting)) (sym (view-added (h .own .sound) r vacant (listed-code-right T v c known))) (rest-added (h .resting) r free);
+      })
 
   steady-peer-added : (s : State) (i : ℕ) (c : Code) → member i (peerRecords s) ≡ false → valid T ≡ true → listed (operationOf T c) ≡ true → (not (isSilent T c) && isFull (peerRecords s)) ≡ false
       → Steady s → Steady (withPeer T s i c)
   steady-peer-added s i c new v known room h =
       cond-elim Steady (isSilent T c) s (addPeer s (record { 0 = i }) c) (λ _. h)
-      (λ e. record { own = h .own; peer = side-added (record { id = i; code = c }) new v known (room-left (isSilent T c) (peerRecords s) e room) (h .peer) })
+      (λ e. record { own = h .own; peer = side-added (record { id = i; code = c }) new v known (room-left (isSilent T c) (peerRecords s) e room) (h .peer); resting = h .resting })
 
   -- ---- each call keeps it
 
@@ -112,11 +134,11 @@ module _ (T : List ℕ) where
   unfolding done
   steady-done s (receive x room) p h = steady-received s x (parse x) (table-valid T s (receive x room) p) h
   steady-done s (invoke i c l v room) p h =
-      let f = invoke-facts T s i v room c l p in steady-own-added s i c (f .new) (table-valid T s (invoke i c l v room) p) (f .known) (f .vacant) h
+      let f = invoke-facts T s i v room c l p in steady-own-added s i c (f .new) (f .free) (table-valid T s (invoke i c l v room) p) (f .known) (f .vacant) h
   steady-done s (result i v room) p h = steady-peer-retired i h
   steady-done s (error i e v room) p h = steady-peer-retired i h
   steady-done s (reject i p room) q h = steady-peer-retired i h
-  steady-done s (forget own i) p h = steady-own-retired i h
+  steady-done s (forget own i) p h = steady-own-forgotten i (forgotten-live T s i p) h
   steady-done s (forget peer i) p h = steady-peer-retired i h
 
   pub steady-step : (s : State) (c : Call) → Steady s → Steady (stateAfter s (perform T s c))

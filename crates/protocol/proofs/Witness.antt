@@ -137,6 +137,14 @@ named =
     ∷ at kiosk (invoke 3 named2 Absent three 100)
     ∷ []
 
+-- a forgotten id rests: its answer comes late and is refused, and the id is not asked again; another one is
+abbrev late : List Event
+late =
+    ask 1 ∷ hear 1 ∷ at kiosk (forget own 1) ∷ ask 1
+    ∷ giveResult 1 zero02 ∷ getResult 1 (some zero02)
+    ∷ ask 1 ∷ ask 2
+    ∷ []
+
 -- an id asked twice: the repeat of the first answer is taken for the second
 abbrev reused : List Event
 reused = ask 1 ∷ hear 1 ∷ giveResult 1 zero02 ∷ getResult 1 (some zero02) ∷ ask 1 ∷ getResult 1 (some zero02) ∷ []
@@ -171,6 +179,7 @@ runs =
     ∷ record { atKiosk = tableS; atController = tableS; events = silent }
     ∷ record { atKiosk = tableP; atController = tableP; events = indefinite }
     ∷ record { atKiosk = tableG; atController = tableH; events = named }
+    ∷ record { atKiosk = tableO; atController = tableN; events = late }
     ∷ record { atKiosk = tableO; atController = tableN; events = reused }
     ∷ record { atKiosk = tableO; atController = tableN; events = cramped }
     ∷ record { atKiosk = tableO; atController = tableN; events = forged }
@@ -195,6 +204,7 @@ told =
     ∷ record { refusals = none ∷ none ∷ none ∷ none ∷ []; shown = [] }
     ∷ record { refusals = none ∷ none ∷ some (plain 9) ∷ none ∷ none ∷ []; shown = 1 ∷ [] }
     ∷ record { refusals = none ∷ none ∷ none ∷ none ∷ none ∷ none ∷ none ∷ none ∷ some (plain 4) ∷ []; shown = 1 ∷ 2 ∷ [] }
+    ∷ record { refusals = none ∷ none ∷ none ∷ some (plain 22) ∷ none ∷ some (rejecting (Of 1) 0x82 0) ∷ some (plain 22) ∷ none ∷ []; shown = [] }
     ∷ record { refusals = none ∷ none ∷ none ∷ none ∷ none ∷ none ∷ []; shown = 1 ∷ 1 ∷ [] }
     ∷ record { refusals = none ∷ none ∷ none ∷ some (plain 2) ∷ []; shown = [] }
     ∷ record { refusals = none ∷ none ∷ []; shown = 1 ∷ [] }

@@ -1,6 +1,6 @@
 -- The two ends, the channel and the book: document 01, 'The book for demand 3'. Wire, asked, heard, given and live are that part's own terms.
 use Prim.Native.Nat.{ℕ}
-use mathlib.Core.Bool.{Bool, true, false, cond, not, _&&_, _||_}
+use mathlib.Core.Bool.{Bool, true, false, cond}
 use mathlib.Core.List.{List, [], _∷_, _++_}
 use mathlib.Core.Option.{Option, some, none}
 use lib.Dec.{eqb}
@@ -8,6 +8,7 @@ use Rattle.codes.specs.declared.Code.{Code}
 use Rattle.codes.specs.declared.Code.the-variants.{Local}
 use Rattle.records.specs.declared.Record.{Record}
 use Rattle.records.specs.declared.State.{State}
+use Rattle.records.specs.Resting.{among}
 use Rattle.apdu.specs.declared.Number.the-variants.{Of, Absent}
 use Rattle.apdu.specs.Field.{octetsOf}
 use Rattle.apdu.specs.Parse.{bodyValue, Apdu, badlyStructured, unrecognized, mistyped, parse, invoke as Invoke, result as Result, error as Error, reject as Reject}
@@ -23,18 +24,9 @@ abbrev pub idsOf : List Record → List ℕ
 idsOf [] = []
 idsOf (r ∷ l) = r .id ∷ idsOf l
 
-abbrev pub among : ℕ → List ℕ → Bool
-among i [] = false
-among i (x ∷ l) = eqb x i || among i l
-
 abbrev pub leaving : ℕ → List ℕ → List ℕ
 leaving i [] = []
 leaving i (x ∷ l) = cond (eqb x i) (leaving i l) (x ∷ leaving i l)
-
--- no id stands twice
-abbrev pub eachOnce : List ℕ → Bool
-eachOnce [] = true
-eachOnce (x ∷ l) = not (among x l) && eachOnce l
 
 -- the code last noted with an id, 0 where there is none
 abbrev pub lastCode : ℕ → List Record → Code

@@ -13,6 +13,7 @@ use Rattle.records.specs.declared.Found.{Found}
 use Rattle.records.specs.declared.Found.the-variants.{Operation, Nothing}
 use Rattle.records.specs.Limits.{octets, levels, records}
 use Rattle.records.specs.Records.{view, lookup}
+use Rattle.records.specs.Resting.{viewIds}
 use Rattle.records.specs.State.{soundState}
 use Rattle.ber.specs.declared.element.Finding.{Finding}
 use Rattle.ber.specs.declared.element.Finding.the-variants.{One}
@@ -47,6 +48,10 @@ ownRecords s = view (s .own)
 
 abbrev pub peerRecords : State → List Record
 peerRecords s = view (s .peer)
+
+-- the own ids that rest
+abbrev pub restingIds : State → List ℕ
+restingIds s = viewIds (s .resting)
 
 -- the record's operation code; 0 where there is no record
 abbrev pub codeFound : Found → Code

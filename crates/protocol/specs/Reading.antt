@@ -11,7 +11,7 @@ use Rattle.protocol.specs.declared.Invocation.the-variants.{Own, Peer}
 use Rattle.protocol.specs.declared.Indication.{Indication as Indicated}
 use Rattle.protocol.specs.declared.Indication.the-variants.{Invoke, Result, Error, InvokeRejected, ResultRejected, ErrorRejected, GeneralReject}
 use Rattle.protocol.specs.declared.Refusal.{Refusal as Reason}
-use Rattle.protocol.specs.declared.Refusal.the-variants.{InvalidTable, ShortOutput, LongInput, UnknownOperation, IdInUse, SynchronousLive, UnknownLinkedId, NotAChild, MalformedValue, MistypedValue, NoRecord, WrongClass, UnlistedError, RecordsFull, LargeApdu, WrongProblem, UnacceptableReject, Rejected, UnsoundState, TrailingOctets}
+use Rattle.protocol.specs.declared.Refusal.the-variants.{InvalidTable, ShortOutput, LongInput, UnknownOperation, IdInUse, SynchronousLive, UnknownLinkedId, NotAChild, MalformedValue, MistypedValue, NoRecord, WrongClass, UnlistedError, RecordsFull, LargeApdu, WrongProblem, UnacceptableReject, Rejected, UnsoundState, TrailingOctets, IdResting}
 use Rattle.protocol.specs.declared.Problem.{Problem}
 use Rattle.protocol.specs.declared.Reception.{Reception}
 use Rattle.protocol.specs.declared.Reception.the-variants.{Indicated as Accepting, Refused as Refusing}
@@ -62,6 +62,7 @@ readRefusal UnacceptableReject = plain 17
 readRefusal (Rejected i kind p) = rejecting i kind p
 readRefusal UnsoundState = plain 19
 readRefusal TrailingOctets = plain 21
+readRefusal IdResting = plain 22
 
 -- 18 also returns the problem's kind and number; another refusal has 0, 0
 abbrev pub refusalProblem : Refusal → Problem

@@ -58,7 +58,7 @@ pub enum Indication {
     },
 }
 
-// Why a call was refused, in the order of the papers' numbers: 1 to 19, and 21.
+// Why a call was refused, in the order of the papers' numbers: 1 to 19, 21 and 22.
 pub enum Refusal {
     InvalidTable,
     ShortOutput,
@@ -82,6 +82,8 @@ pub enum Refusal {
     UnsoundState,
     // One well-formed element, and then more octets.
     TrailingOctets,
+    // The id was forgotten, and rests.
+    IdResting,
 }
 
 // A problem of a Reject: its kind, 80 general, 81 invoke, 82 result or 83 error (hexadecimal), and its number within the kind.
@@ -91,7 +93,7 @@ pub struct Problem {
 }
 
 impl Refusal {
-    // The papers' number: 1 to 19, or 21.
+    // The papers' number: 1 to 19, 21 or 22.
     pub fn number(self) -> u8
         ensures { λ r. ⌜ r ≡ refusalNumber (readRefusal self) ⌝ }
     {
@@ -120,6 +122,7 @@ impl Refusal {
             } => 18,
             Refusal::UnsoundState => 19,
             Refusal::TrailingOctets => 21,
+            Refusal::IdResting => 22,
         }
     }
 

@@ -8,7 +8,7 @@ use mathlib.Core.List.{List, [], _∷_, _++_, append-assoc}
 use mathlib.Core.Logic.{_⊎_, inl, inr}
 use lib.Dec.{eqb, leb}
 use lib.ListN.{length, take, drop, getD, set, replicate, length-append, length-take, length-drop, take-append-drop}
-use lib.Seq.{set-append-seam, take-append-seam, drop-append-seam, take-suc, getD-take, getD-drop, length-take-le}
+use lib.Seq.{set-append-seam, take-append-seam, drop-append-seam, drop-append-le, drop-drop, take-suc, getD-take, getD-drop, length-take-le}
 use borrow.Author.Tests.{eqb-true, eq-eqb, leb-false, leb-true, le-leb}
 use Rattle.base.proofs.Tests.{cond-elim, and-left, and-right, or-cases, or-true-left, or-true-right}
 use Rattle.records.specs.declared.Record.{Record}
@@ -70,6 +70,28 @@ module _ (r : Resting) (from : ℕ) where
       let put : set ids k i ≡ packIds (l ++ i ∷ []) .ids = rw (w, n) (next-place l i (omega (arith, n))) in
       let all : _≡_ {A = Resting} (record { count = k + 1; ids = set ids k i }) (packIds (l ++ i ∷ [])) = λ t. record { count = count t; ids = put t } in
       all ∙ ap (λ (m : List ℕ). packIds (m ++ i ∷ [])) (sym stay)
+
+-- validates `staying`: of all ids forgotten so far the last 64 rest, oldest first
+pub last-rest : (l : List ℕ) (i : ℕ) → staying (drop (length l - resting) l) ++ i ∷ [] ≡ drop (length (l ++ i ∷ []) - resting) (l ++ i ∷ [])
+last-rest l i = go (leb resting (length l)) refl
+  where
+    all : ℕ
+    all = length l - resting
+
+    n : length (drop all l) ≡ length l - all
+    n = length-drop all l
+
+    go : (b : Bool) → leb resting (length l) ≡ b → staying (drop all l) ++ i ∷ [] ≡ drop (length (l ++ i ∷ []) - resting) (l ++ i ∷ [])
+    go true e =
+        let p = leb-true resting (length l) e in
+        let full : leb resting (length (drop all l)) ≡ true = le-leb resting (length (drop all l)) (omega (arith, n)) in
+        let k : length (l ++ i ∷ []) - resting ≡ all + 1 = omega (arith, length-append l (i ∷ [])) in
+        rw (full, k, drop-drop 1 all l, drop-append-le (all + 1) l (i ∷ []) (omega arith)) refl
+    go false e =
+        let p = leb-false resting (length l) e in
+        let none : all ≡ 0 = omega arith in
+        let k : length (l ++ i ∷ []) - resting ≡ 0 = omega (arith, length-append l (i ∷ [])) in
+        rw (k, none, e) refl
 
 -- validates `packIds`: where there are 64 places, as there are in code, sound ones are their list with zeros behind
 pub resting-is-packed : (owns : List Record) (r : Resting) → length (r .ids) ≡ resting → soundResting owns r ≡ true → r ≡ packIds (viewIds r)

@@ -4,9 +4,9 @@ ghost use mathlib.Core.List.{List};
 ghost use mathlib.Core.Bool.{cond};
 ghost use Prim.Native.Nat.{ℕ};
 ghost use lib.Dec.{ltb};
-ghost use lib.ListN.{length, take};
+ghost use lib.ListN.{length, take, drop};
 ghost use Rattle.records.specs.Limits.{records};
-ghost use Rattle.records.specs.Records.{codeOf, nameIn, lent, view, lookup, member, soundRecords};
+ghost use Rattle.records.specs.Records.{codeOf, nameIn, rows, lent, view, lookup, member, blank, soundRecords};
 use crate::Found;
 use crate::OwnId;
 use crate::PeerId;
@@ -117,7 +117,22 @@ pub fn has_peer(count: usize, ids: &[u32; State::RECORDS], id: PeerId) -> bool
     holds(count, ids, id.0)
 }
 
-// Whether a side is sound.
+// Whether the places from `from` on are unused.
+fn is_clear<'a>(
+    from: usize,
+    ids: &'a [u32; State::RECORDS],
+    lengths: &'a [u8; State::RECORDS],
+    highs: &'a [u64; State::RECORDS],
+    lows: &'a [u64; State::RECORDS],
+) -> bool
+    ensures { λ r. ⌜ r ≡ blank (drop from (rows (now (ids .entry)) (now (lengths .entry)) (now (highs .entry)) (now (lows .entry)))) ⌝ }
+{
+    are_ids_clear(from, ids)
+        & (are_lengths_clear(from, lengths)
+            & (are_words_clear(from, highs) & are_words_clear(from, lows)))
+}
+
+// Whether a side is sound; where no record is live only that every place is unused is asked.
 pub fn sound<'a>(
     count: usize,
     ids: &'a [u32; State::RECORDS],
@@ -127,12 +142,12 @@ pub fn sound<'a>(
 ) -> bool
     ensures { λ r. ⌜ r ≡ soundRecords (lent count (now (ids .entry)) (now (lengths .entry)) (now (highs .entry)) (now (lows .entry))) ⌝ }
 {
+    if count == 0 {
+        return is_clear(0, ids, lengths, highs, lows);
+    }
     if State::RECORDS < count {
         return false;
     }
     each_once(count, ids)
-        & (are_formed(count, lengths, highs, lows)
-            & (are_ids_clear(count, ids)
-                & (are_lengths_clear(count, lengths)
-                    & (are_words_clear(count, highs) & are_words_clear(count, lows)))))
+        & (are_formed(count, lengths, highs, lows) & is_clear(count, ids, lengths, highs, lows))
 }

@@ -33,6 +33,9 @@ pub fn sound<'a>(
 ) -> bool
     ensures { λ r. ⌜ ((lengths highs lows : List ℕ) → r ≡ soundResting (view (lent «own_count» (now («own_ids» .entry)) lengths highs lows)) (record { count = count; ids = now (ids .entry) })) ⌝ }
 {
+    if count == 0 {
+        return are_ids_clear(0, ids);
+    }
     if State::RESTING < count {
         return false;
     }

@@ -62,15 +62,15 @@ invoked-behind c [] l h = h
 invoked-behind c (r ∷ k) l h = or-true-right (sameCode (r .code) c) (invoked c (k ++ l)) (invoked-behind c k l h)
 
 -- the record that was sought is one of the live ones
-sought-invoked : (s : State) (q : Sought) → isFound (soughtIn s q) ≡ true → invoked (codeFound (soughtIn s q)) (live s) ≡ true
-sought-invoked s (OwnOne i) h = invoked-before (codeFound (lookup (i .0) (ownRecords s))) (ownRecords s) (peerRecords s) (found-invoked (i .0) (ownRecords s) h)
-sought-invoked s (PeerOne i) h = invoked-behind (codeFound (lookup (i .0) (peerRecords s))) (ownRecords s) (peerRecords s) (found-invoked (i .0) (peerRecords s) h)
-sought-invoked s NoOne h = absurd (true≢false (sym h))
+sought-invoked : (own peer : List Record) (q : Sought) → isFound (soughtIn own peer q) ≡ true → invoked (codeFound (soughtIn own peer q)) (own ++ peer) ≡ true
+sought-invoked own peer (OwnOne i) h = invoked-before (codeFound (lookup (i .0) own)) own peer (found-invoked (i .0) own h)
+sought-invoked own peer (PeerOne i) h = invoked-behind (codeFound (lookup (i .0) peer)) own peer (found-invoked (i .0) peer h)
+sought-invoked own peer NoOne h = absurd (true≢false (sym h))
 
 -- its operation stands where the walk says
-pub sought-stands : (T : List ℕ) (s : State) (q : Sought) (f : Found) → f ≡ soughtIn s q → (c : Code) → c ≡ codeFound f → (n : ℕ) → (invoked c (live s) ≡ true → PlaceOf T Operations c (At n)) → StandsAt T f n
+pub sought-stands : (T : List ℕ) (s : State) (q : Sought) (f : Found) → f ≡ soughtIn (ownRecords s) (peerRecords s) q → (c : Code) → c ≡ codeFound f → (n : ℕ) → (invoked c (live s) ≡ true → PlaceOf T Operations c (At n)) → StandsAt T f n
 sought-stands T s q f e c g n w h =
-    let i : invoked (codeFound f) (live s) ≡ true = subst (λ (x : Found). invoked (codeFound x) (live s) ≡ true) (sym e) (sought-invoked s q (ap isFound (sym e) ∙ h)) in
+    let i : invoked (codeFound f) (live s) ≡ true = subst (λ (x : Found). invoked (codeFound x) (live s) ≡ true) (sym e) (sought-invoked (ownRecords s) (peerRecords s) q (ap isFound (sym e) ∙ h)) in
     subst (λ (d : Code). PlaceOf T Operations d (At n)) g (w (subst (λ (d : Code). invoked d (live s) ≡ true) (sym g) i))
 
 -- the record that was sought, said otherwise

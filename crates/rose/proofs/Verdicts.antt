@@ -182,13 +182,17 @@ past : (k n : ℕ) → Past k n → 1 ≤ n → k < n
 past zero n w h = omega arith
 past (suc k) n (w, d) h = let p = past k n w h in let q : n ≡ suc k → ⊥ = d in omega arith
 
-pub number-rest : (n : ℕ) → isNumber n ≡ true → Past 16 n × (OneOf (21 ∷ []) n → ⊥) → n ≡ 19
-number-rest n h (w, d) = go (or-cases (leb 1 n && leb n 16) (eqb n 19 || eqb n 21) h)
+pub number-rest : (n : ℕ) → isNumber n ≡ true → (Past 16 n × (OneOf (21 ∷ []) n → ⊥)) × (OneOf (22 ∷ []) n → ⊥) → n ≡ 19
+number-rest n h ((w, d), f) = go (or-cases (leb 1 n && leb n 16) (eqb n 19 || (eqb n 21 || eqb n 22)) h)
   where
-    go : ((leb 1 n && leb n 16) ≡ true) ⊎ ((eqb n 19 || eqb n 21) ≡ true) → n ≡ 19
+    go : ((leb 1 n && leb n 16) ≡ true) ⊎ ((eqb n 19 || (eqb n 21 || eqb n 22)) ≡ true) → n ≡ 19
     go (inl e) = absurd (lt-not-le 16 n (past 16 n w (leb-true 1 n (and-left (leb 1 n) (leb n 16) e))) (leb-true n 16 (and-right (leb 1 n) (leb n 16) e)))
-    go (inr e) = late (or-cases (eqb n 19) (eqb n 21) e)
+    go (inr e) = late (or-cases (eqb n 19) (eqb n 21 || eqb n 22) e)
       where
-        late : (eqb n 19 ≡ true) ⊎ (eqb n 21 ≡ true) → n ≡ 19
+        added : (eqb n 21 ≡ true) ⊎ (eqb n 22 ≡ true) → n ≡ 19
+        added (inl e) = absurd (d (eqb-true n 21 e))
+        added (inr e) = absurd (f (eqb-true n 22 e))
+
+        late : (eqb n 19 ≡ true) ⊎ ((eqb n 21 || eqb n 22) ≡ true) → n ≡ 19
         late (inl e) = eqb-true n 19 e
-        late (inr e) = absurd (d (eqb-true n 21 e))
+        late (inr e) = added (or-cases (eqb n 21) (eqb n 22) e)

@@ -6,6 +6,7 @@ use mathlib.Core.Bool.{Bool, true, false, cond, _&&_, _||_}
 use mathlib.Core.List.{List, [], _∷_, _++_}
 use mathlib.Core.Option.{Option, some, none}
 use Rattle.records.specs.declared.Records.{Records}
+use Rattle.records.specs.declared.Resting.{Resting}
 use Rattle.records.specs.declared.State.{State}
 use Rattle.records.specs.declared.Found.{Found}
 use Rattle.records.specs.declared.Found.the-variants.{Operation, Nothing}
@@ -27,7 +28,7 @@ use Rattle.apdu.specs.declared.CodeField.the-variants.{Is, Other}
 use Rattle.apdu.specs.Parse.{Apdu, badlyStructured, unrecognized, mistyped, invoke, result, error, reject}
 use lib.ListN.{length, take, drop}
 use lib.Dec.{eqb, leb}
-use Rattle.records.specs.State.{addPeer, retireOwn, retirePeer}
+use Rattle.records.specs.State.{addPeer, retireOwn, retirePeer, forgetOwn}
 use Rattle.protocol.specs.declared.Invocation.{Invocation}
 use Rattle.protocol.specs.declared.Invocation.the-variants.{Own, Peer}
 use Rattle.protocol.specs.declared.Reception.{Reception}
@@ -74,9 +75,9 @@ Opened T s v = readVerdict plain v ≡ first (shared T s)
 abbrev pub Judged : List ℕ → State → Call → Verdict → Type 0
 Judged T s c v = readVerdict plain v ≡ first (checks T s c)
 
--- the state of two sides
-abbrev pub both : Records → Records → State
-both own peer = record { own = own; peer = peer }
+-- the state of these parts
+abbrev pub stateOf : Records → Records → Resting → State
+stateOf own peer rest = record { own = own; peer = peer; resting = rest }
 
 -- the state as a received APDU changes it
 abbrev pub after : State → Change → State
@@ -114,11 +115,11 @@ pub record Walked (T : List ℕ) (l : List Record) (asked : ℕ) (c : Code) (w :
   pub busy : valid T ≡ true → w .covered ≡ true → w .busy ≡ isBusy T (take asked l)
   pub entry : w .covered ≡ true → invoked c l ≡ true → PlaceOf T Operations c (At (w .entry))
 
--- the record that is sought
-abbrev pub soughtIn : State → Sought → Found
-soughtIn s (OwnOne i) = lookup (i .0) (ownRecords s)
-soughtIn s (PeerOne i) = lookup (i .0) (peerRecords s)
-soughtIn s NoOne = Nothing
+-- the record that is sought, among the own and the peer records
+abbrev pub soughtIn : List Record → List Record → Sought → Found
+soughtIn own peer (OwnOne i) = lookup (i .0) own
+soughtIn own peer (PeerOne i) = lookup (i .0) peer
+soughtIn own peer NoOne = Nothing
 
 -- the operation of a record that was found stands at entry n
 abbrev pub StandsAt : List ℕ → Found → ℕ → Type 0
@@ -130,6 +131,10 @@ pub record Opens (T : List ℕ) (s : State) (asked : ℕ) (f : Found) (o : Openi
   pub found : o .found ≡ f
   pub busy : o .verdict ≡ Passes → o .busy ≡ isBusy T (take asked (live s))
   pub stands : o .verdict ≡ Passes → StandsAt T (o .found) (o .entry)
+
+-- the same, the record being the one that is sought
+abbrev pub OpensFor : List ℕ → State → ℕ → Sought → Opening → Type 0
+OpensFor T s asked q o = Opens T s asked (soughtIn (ownRecords s) (peerRecords s) q) o
 
 abbrev pub isLocal : CodeField → Bool
 isLocal (Is c) = true
@@ -177,7 +182,7 @@ pub record ValueChecked (down : ℕ) (v : List ℕ) (w : ValueCheck) : Type 0 wh
 
 -- the numbers of the refusals that checks give
 abbrev pub isNumber : ℕ → Bool
-isNumber n = (leb 1 n && leb n 16) || (eqb n 19 || eqb n 21)
+isNumber n = (leb 1 n && leb n 16) || (eqb n 19 || (eqb n 21 || eqb n 22))
 
 -- the value being at fault at p, if it is
 pub record RefusedRequest (s : State) (n p : ℕ) (r : Requested) : Type 0 where
@@ -196,7 +201,7 @@ abbrev pub acceptedRequest : State → ℕ → Requested
 acceptedRequest s n = record { state = s; outcome = Accepted; written = n; place = 0 }
 
 abbrev pub withoutInvocation : State → Invocation → State
-withoutInvocation s (Own i) = retireOwn s i
+withoutInvocation s (Own i) = forgetOwn s i
 withoutInvocation s (Peer i) = retirePeer s i
 
 -- the octets that a reception writes: the Reject of an 18

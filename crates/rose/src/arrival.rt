@@ -28,8 +28,8 @@ ghost use mathlib.Core.List.{List};
 ghost use Prim.Native.Nat.{ℕ};
 ghost use lib.ListN.{length, getD};
 ghost use lib.Dec.{eqb};
-ghost use Rattle.records.specs.declared.Records.{Records};
-ghost use Rattle.records.specs.Records.{lent, view, lookup};
+ghost use Rattle.records.specs.Records.{lent, lookup};
+ghost use Rattle.records.specs.State.{putPeer};
 ghost use Rattle.optable.specs.Validity.{valid};
 ghost use Rattle.apdu.specs.declared.Number.the-variants.{Of};
 ghost use Rattle.apdu.specs.Parse.{invoke, result, error, parse};
@@ -39,7 +39,7 @@ ghost use Rattle.protocol.specs.Call.{receive, refused};
 ghost use Rattle.protocol.specs.Check.{ownRecords};
 ghost use Rattle.protocol.specs.Receive.{fault};
 ghost use Rattle.rose.specs.declared.change.Change.the-variants.{Unchanged};
-ghost use Rattle.rose.specs.Steps.{both, foundBy, leadsTo, StandsAt, Opened, Judged, Answers, Arrives};
+ghost use Rattle.rose.specs.Steps.{foundBy, leadsTo, StandsAt, Opened, Judged, Answers, Arrives};
 
 // The checks of receive behind 19 and 1.
 pub(crate) fn check_receive(opened: Opening, octets: usize, room: usize) -> Verdict
@@ -126,7 +126,7 @@ fn arrive_invoke(
     value: Value,
 ) -> Arrival
     requires { ⌜ (valid (now table) ≡ true) × StandsAt (now table) (opened .found) (opened .entry) ⌝ }
-    ensures { λ r. ⌜ ((own : Records) (lengths highs lows : List ℕ) → opened .found ≡ foundBy (readOwnLink linked) (view own) → Arrives (now (table .entry)) (both own (lent count (now (ids .entry)) lengths highs lows)) (now (x .entry)) (invoke (id .0) (readOwnLink linked) field (readValue (now (x .entry)) value)) r) ⌝ }
+    ensures { λ r. ⌜ ((s : State) (lengths highs lows : List ℕ) → opened .found ≡ foundBy (readOwnLink linked) (ownRecords s) → Arrives (now (table .entry)) (putPeer s (lent count (now (ids .entry)) lengths highs lows)) (now (x .entry)) (invoke (id .0) (readOwnLink linked) field (readValue (now (x .entry)) value)) r) ⌝ }
 {
     let code = field_code(field);
     let place = operation_place(table, code);
@@ -210,7 +210,7 @@ pub(crate) fn arrive(
     parsed: Parsed,
 ) -> Arrival
     requires { ⌜ (valid (now table) ≡ true) × (StandsAt (now table) (opened .found) (opened .entry) × (readParsed (now x) parsed ≡ parse (now x))) ⌝ }
-    ensures { λ r. ⌜ ((own : Records) (lengths highs lows : List ℕ) → opened .found ≡ leadsTo (parse (now (x .entry))) (view own) → Arrives (now (table .entry)) (both own (lent count (now (ids .entry)) lengths highs lows)) (now (x .entry)) (parse (now (x .entry))) r) ⌝ }
+    ensures { λ r. ⌜ ((s : State) (lengths highs lows : List ℕ) → opened .found ≡ leadsTo (parse (now (x .entry))) (ownRecords s) → Arrives (now (table .entry)) (putPeer s (lent count (now (ids .entry)) lengths highs lows)) (now (x .entry)) (parse (now (x .entry))) r) ⌝ }
 {
     match parsed {
         Parsed::BadlyStructured { at: _ } => arrive_wrong(x, 2, Number::Absent),

@@ -9,12 +9,13 @@ use protocol::Invocation;
 use records::State;
 ghost use mathlib.Core.Path.{_≡_};
 ghost use Prim.Native.Nat.{ℕ};
+ghost use Rattle.protocol.specs.Check.{ownRecords, peerRecords};
 ghost use Rattle.protocol.specs.Reading.{forgetting};
 ghost use Rattle.rose.specs.Steps.{soughtIn, invocationIn, Opens, Judged, withoutInvocation};
 
 // The record of an invocation.
 pub(crate) fn record_sought(invocation: Invocation) -> Sought
-    ensures { λ r. ⌜ ((s : State) → soughtIn s r ≡ invocationIn s invocation) ⌝ }
+    ensures { λ r. ⌜ ((s : State) → soughtIn (ownRecords s) (peerRecords s) r ≡ invocationIn s invocation) ⌝ }
 {
     match invocation {
         Invocation::Own(id) => Sought::Own(id),
@@ -35,12 +36,12 @@ pub(crate) fn check_forget(opened: Opening, table: &[u8], invocation: Invocation
     }
 }
 
-// The state without the record of an invocation.
+// The state without the record of an invocation; an own id rests then.
 pub(crate) fn forgotten(state: State, invocation: Invocation) -> State
     ensures { λ r. ⌜ r ≡ withoutInvocation state invocation ⌝ }
 {
     match invocation {
-        Invocation::Own(id) => state.retire_own(id),
+        Invocation::Own(id) => state.forget_own(id),
         Invocation::Peer(id) => state.retire_peer(id),
     }
 }

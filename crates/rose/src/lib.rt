@@ -40,6 +40,7 @@ use records::OwnId;
 use records::PeerId;
 use records::State;
 use records::lent::live;
+use records::rest::is_resting;
 use request::check_error;
 use request::check_invoke;
 use request::check_reject;
@@ -73,6 +74,8 @@ pub fn receive(state: State, table: &[u8], apdu: &[u8], out: &mut [u8]) -> Recei
         &state.peer.lengths,
         &state.peer.highs,
         &state.peer.lows,
+        state.resting.count,
+        &state.resting.ids,
         table,
         0,
         leads_to(parsed),
@@ -124,10 +127,13 @@ pub fn invoke(
         &state.peer.lengths,
         &state.peer.highs,
         &state.peer.lows,
+        state.resting.count,
+        &state.resting.ids,
         table,
         live(state.own.count, &state.own.ids),
         peer_parent(linked),
     );
+    let rests = is_resting(state.resting.count, &state.resting.ids, id);
     let place = operation_place(table, code);
     let checked = check_value(value, State::LEVELS - 1);
     match check_invoke(
@@ -141,6 +147,7 @@ pub fn invoke(
         linked,
         value,
         checked,
+        rests,
         out.len(),
     ) {
         Verdict::Fails(why) => refused(state, why, checked.place),
@@ -167,6 +174,8 @@ pub fn result(state: State, table: &[u8], id: PeerId, value: &[u8], out: &mut [u
         &state.peer.lengths,
         &state.peer.highs,
         &state.peer.lows,
+        state.resting.count,
+        &state.resting.ids,
         table,
         0,
         Sought::Peer(id),
@@ -204,6 +213,8 @@ pub fn error(
         &state.peer.lengths,
         &state.peer.highs,
         &state.peer.lows,
+        state.resting.count,
+        &state.resting.ids,
         table,
         0,
         Sought::Peer(id),
@@ -233,6 +244,8 @@ pub fn reject(state: State, table: &[u8], id: PeerId, problem: u8, out: &mut [u8
         &state.peer.lengths,
         &state.peer.highs,
         &state.peer.lows,
+        state.resting.count,
+        &state.resting.ids,
         table,
         0,
         Sought::Peer(id),
@@ -261,6 +274,8 @@ pub fn forget(state: State, table: &[u8], invocation: Invocation) -> Requested
         &state.peer.lengths,
         &state.peer.highs,
         &state.peer.lows,
+        state.resting.count,
+        &state.resting.ids,
         table,
         0,
         record_sought(invocation),

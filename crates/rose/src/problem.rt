@@ -32,8 +32,8 @@ ghost use mathlib.Core.Path.{_≡_};
 ghost use mathlib.Core.Bool.{true};
 ghost use mathlib.Core.List.{List};
 ghost use Prim.Native.Nat.{ℕ};
-ghost use Rattle.records.specs.declared.Records.{Records};
-ghost use Rattle.records.specs.Records.{lent, view, lookup};
+ghost use Rattle.records.specs.Records.{lent, lookup};
+ghost use Rattle.records.specs.State.{putPeer};
 ghost use Rattle.optable.specs.declared.Part.the-variants.{Operations};
 ghost use Rattle.optable.specs.Validity.{valid};
 ghost use Rattle.optable.specs.Lookup.{PlaceOf};
@@ -44,7 +44,7 @@ ghost use Rattle.apdu.specs.Reading.{readOwnLink, readValue, readBody};
 ghost use Rattle.protocol.specs.Call.{rejecting};
 ghost use Rattle.protocol.specs.Check.{ownRecords};
 ghost use Rattle.protocol.specs.Receive.{fieldCode, otherCode, invokeChecks, resultChecks, errorChecks};
-ghost use Rattle.rose.specs.Steps.{both, first, readVerdict, foundBy, isLocal, StandsAt};
+ghost use Rattle.rose.specs.Steps.{first, readVerdict, foundBy, isLocal, StandsAt};
 
 pub(crate) fn field_code(field: CodeField) -> Code
     ensures { λ r. ⌜ r ≡ fieldCode field ⌝ }
@@ -93,7 +93,7 @@ pub(crate) fn check_invoke(
     value: Value,
 ) -> Verdict
     requires { ⌜ (valid (now table) ≡ true) × (StandsAt (now table) (opened .found) (opened .entry) × PlaceOf (now table) Operations (fieldCode field) place) ⌝ }
-    ensures { λ r. ⌜ ((own : Records) (lengths highs lows : List ℕ) → opened .found ≡ foundBy (readOwnLink linked) (view own) → readVerdict (rejecting (Of (id .0)) 0x81) r ≡ first (invokeChecks (now (table .entry)) (both own (lent count (now (ids .entry)) lengths highs lows)) (id .0) (readOwnLink linked) field (readValue (now (x .entry)) value))) ⌝ }
+    ensures { λ r. ⌜ ((s : State) (lengths highs lows : List ℕ) → opened .found ≡ foundBy (readOwnLink linked) (ownRecords s) → readVerdict (rejecting (Of (id .0)) 0x81) r ≡ first (invokeChecks (now (table .entry)) (putPeer s (lent count (now (ids .entry)) lengths highs lows)) (id .0) (readOwnLink linked) field (readValue (now (x .entry)) value))) ⌝ }
 {
     let named = operation_in(table, place);
     let is_linked = is_own_linked(linked);

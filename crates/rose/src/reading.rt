@@ -8,10 +8,10 @@ ghost use mathlib.Core.Path.{_≡_};
 ghost use mathlib.Core.List.{List};
 ghost use Prim.Native.Nat.{ℕ, _≤_};
 ghost use lib.ListN.{length};
+ghost use Rattle.records.specs.declared.Record.{Record};
 ghost use Rattle.records.specs.Limits.{octets};
 ghost use Rattle.apdu.specs.Parse.{parse};
 ghost use Rattle.apdu.specs.Reading.{readParsed};
-ghost use Rattle.protocol.specs.Check.{ownRecords};
 ghost use Rattle.rose.specs.Steps.{soughtIn, leadsTo, faultIn};
 
 // An APDU as it is parsed; one that is too long for any is not looked at.
@@ -26,7 +26,7 @@ pub(crate) fn read(x: &[u8]) -> Parsed
 
 // The own record that an APDU leads to: the parent of an Invoke, the invocation of a Result or an Error.
 pub(crate) fn leads_to(parsed: Parsed) -> Sought
-    ensures { λ r. ⌜ ((x : List ℕ) (s : State) → soughtIn s r ≡ leadsTo (readParsed x parsed) (ownRecords s)) ⌝ }
+    ensures { λ r. ⌜ ((x : List ℕ) (own peer : List Record) → soughtIn own peer r ≡ leadsTo (readParsed x parsed) own) ⌝ }
 {
     match parsed {
         Parsed::Invoke {

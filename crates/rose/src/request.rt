@@ -36,16 +36,17 @@ ghost use lib.Dec.{leb};
 ghost use lib.ListN.{length};
 ghost use Prim.Native.Nat.{ℕ, _-_};
 ghost use Rattle.base.specs.Lists.{nonEmpty};
-ghost use Rattle.records.specs.declared.Records.{Records};
 ghost use Rattle.records.specs.Limits.{octets, levels};
 ghost use Rattle.records.specs.Records.{lent, view, lookup};
+ghost use Rattle.records.specs.Resting.{among};
+ghost use Rattle.records.specs.State.{putOwn};
 ghost use Rattle.optable.specs.declared.Part.the-variants.{Operations};
 ghost use Rattle.optable.specs.Lookup.{PlaceOf};
 ghost use Rattle.apdu.specs.Reading.{readPeerLink};
 ghost use Rattle.protocol.specs.Call.{invoke, result, error, reject};
-ghost use Rattle.protocol.specs.Check.{valueWell, inApdu, inBody, peerRecords};
+ghost use Rattle.protocol.specs.Check.{valueWell, inApdu, inBody, peerRecords, restingIds};
 ghost use Rattle.protocol.specs.Perform.{isUserProblem};
-ghost use Rattle.rose.specs.Steps.{both, foundBy, Opens, Judged, ValueChecked};
+ghost use Rattle.rose.specs.Steps.{foundBy, Opens, Judged, ValueChecked};
 
 // A value, empty for none, is one well-formed element of at most so many levels.
 fn is_well(value: &[u8], levels: usize) -> bool
@@ -90,7 +91,7 @@ fn is_large(fits: bool, size: usize) -> bool
     !((size <= State::OCTETS) & fits)
 }
 
-// The checks of an invoke behind 19 and 1, given its parent's record and the place of its code, which the call itself needs too.
+// The checks of an invoke behind 19 and 1, given its parent's record, the place of its code, which the call itself needs too, and whether its id rests.
 pub(crate) fn check_invoke(
     opened: Opening,
     count: usize,
@@ -102,9 +103,10 @@ pub(crate) fn check_invoke(
     linked: PeerLink,
     value: &[u8],
     checked: ValueCheck,
+    rests: bool,
     room: usize,
 ) -> Verdict
-    ensures { λ r. ⌜ ((lengths highs lows : List ℕ) (peer : Records) → Opens (now (table .entry)) (both (lent count (now (ids .entry)) lengths highs lows) peer) (length (view (lent count (now (ids .entry)) lengths highs lows))) (foundBy (readPeerLink linked) (view peer)) opened → PlaceOf (now (table .entry)) Operations code place → ValueChecked inApdu (now (value .entry)) checked → Judged (now (table .entry)) (both (lent count (now (ids .entry)) lengths highs lows) peer) (invoke (id .0) code (readPeerLink linked) (now (value .entry)) room) r) ⌝ }
+    ensures { λ r. ⌜ ((s : State) (lengths highs lows : List ℕ) → Opens (now (table .entry)) (putOwn s (lent count (now (ids .entry)) lengths highs lows)) (length (view (lent count (now (ids .entry)) lengths highs lows))) (foundBy (readPeerLink linked) (peerRecords s)) opened → PlaceOf (now (table .entry)) Operations code place → ValueChecked inApdu (now (value .entry)) checked → rests ≡ among (id .0) (restingIds s) → Judged (now (table .entry)) (putOwn s (lent count (now (ids .entry)) lengths highs lows)) (invoke (id .0) code (readPeerLink linked) (now (value .entry)) room) r) ⌝ }
 {
     let named = operation_in(table, place);
     let fits = checked.fits;
@@ -116,6 +118,7 @@ pub(crate) fn check_invoke(
     verdict
         .then(!named.is_listed(), 4)
         .then(has_own(count, ids, id), 5)
+        .then(rests, 22)
         .then(opened.busy, 6)
         .then(is_missing(is_linked, found), 7)
         .then(is_no_child(table, is_linked, opened.entry, place), 8)

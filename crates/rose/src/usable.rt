@@ -16,19 +16,21 @@ use records::lent::live;
 use records::lent::own_found;
 use records::lent::peer_found;
 use records::lent::sound;
+use records::rest;
 ghost use mathlib.Core.Path.{_≡_};
 ghost use mathlib.Core.Bool.{true, not, _&&_};
 ghost use mathlib.Core.List.{List};
 ghost use Prim.Native.Nat.{ℕ};
 ghost use lib.Dec.{eqb};
+ghost use Rattle.records.specs.declared.Record.{Record};
 ghost use Rattle.records.specs.Records.{lent, view};
 ghost use Rattle.codes.specs.declared.Place.the-variants.{At};
 ghost use Rattle.optable.specs.declared.Part.the-variants.{Operations};
 ghost use Rattle.optable.specs.Validity.{valid};
 ghost use Rattle.optable.specs.Lookup.{childOf, hasChild, PlaceOf};
 ghost use Rattle.apdu.specs.Reading.{readOwnLink, readPeerLink};
-ghost use Rattle.protocol.specs.Check.{codeFound, ownRecords, peerRecords, isClass, isFull, isLinked};
-ghost use Rattle.rose.specs.Steps.{both, isFound, foundBy, soughtIn, Opens};
+ghost use Rattle.protocol.specs.Check.{codeFound, isClass, isFull, isLinked};
+ghost use Rattle.rose.specs.Steps.{stateOf, isFound, foundBy, soughtIn, OpensFor};
 
 // The record that a call asks for: of an invocation that this end made, or received, or none.
 pub(crate) enum Sought {
@@ -50,7 +52,7 @@ fn record_of<'a>(
     peer_lows: &'a [u64; State::RECORDS],
     sought: Sought,
 ) -> Found
-    ensures { λ r. ⌜ r ≡ soughtIn (both (lent «own_count» (now («own_ids» .entry)) (now («own_lengths» .entry)) (now («own_highs» .entry)) (now («own_lows» .entry))) (lent «peer_count» (now («peer_ids» .entry)) (now («peer_lengths» .entry)) (now («peer_highs» .entry)) (now («peer_lows» .entry)))) sought ⌝ }
+    ensures { λ r. ⌜ r ≡ soughtIn (view (lent «own_count» (now («own_ids» .entry)) (now («own_lengths» .entry)) (now («own_highs» .entry)) (now («own_lows» .entry)))) (view (lent «peer_count» (now («peer_ids» .entry)) (now («peer_lengths» .entry)) (now («peer_highs» .entry)) (now («peer_lows» .entry)))) sought ⌝ }
 {
     match sought {
         Sought::Own(id) => own_found(own_count, own_ids, own_lengths, own_highs, own_lows, id),
@@ -87,14 +89,17 @@ pub(crate) fn opening_of<'a>(
     peer_lengths: &'a [u8; State::RECORDS],
     peer_highs: &'a [u64; State::RECORDS],
     peer_lows: &'a [u64; State::RECORDS],
+    resting_count: usize,
+    resting_ids: &'a [u32; State::RESTING],
     table: &[u8],
     asked: usize,
     sought: Sought,
 ) -> Opening
-    ensures { λ r. ⌜ Opens (now (table .entry)) (both (lent «own_count» (now («own_ids» .entry)) (now («own_lengths» .entry)) (now («own_highs» .entry)) (now («own_lows» .entry))) (lent «peer_count» (now («peer_ids» .entry)) (now («peer_lengths» .entry)) (now («peer_highs» .entry)) (now («peer_lows» .entry)))) asked (soughtIn (both (lent «own_count» (now («own_ids» .entry)) (now («own_lengths» .entry)) (now («own_highs» .entry)) (now («own_lows» .entry))) (lent «peer_count» (now («peer_ids» .entry)) (now («peer_lengths» .entry)) (now («peer_highs» .entry)) (now («peer_lows» .entry)))) sought) r ⌝ }
+    ensures { λ r. ⌜ OpensFor (now (table .entry)) (stateOf (lent «own_count» (now («own_ids» .entry)) (now («own_lengths» .entry)) (now («own_highs» .entry)) (now («own_lows» .entry))) (lent «peer_count» (now («peer_ids» .entry)) (now («peer_lengths» .entry)) (now («peer_highs» .entry)) (now («peer_lows» .entry))) (record { count = «resting_count»; ids = now («resting_ids» .entry) })) asked sought r ⌝ }
 {
     let is_sound = sound(own_count, own_ids, own_lengths, own_highs, own_lows)
-        & sound(peer_count, peer_ids, peer_lengths, peer_highs, peer_lows);
+        & (sound(peer_count, peer_ids, peer_lengths, peer_highs, peer_lows)
+            & rest::sound(resting_count, resting_ids, own_count, own_ids));
     let found = record_of(
         own_count,
         own_ids,
@@ -155,7 +160,7 @@ pub(crate) fn code_found(found: Found) -> Code
 
 // The parent of a received Invoke is an invocation that this end made.
 pub(crate) fn own_parent(linked: OwnLink) -> Sought
-    ensures { λ r. ⌜ ((s : State) → soughtIn s r ≡ foundBy (readOwnLink linked) (ownRecords s)) ⌝ }
+    ensures { λ r. ⌜ ((own peer : List Record) → soughtIn own peer r ≡ foundBy (readOwnLink linked) own) ⌝ }
 {
     match linked {
         OwnLink::To(id) => Sought::Own(id),
@@ -165,7 +170,7 @@ pub(crate) fn own_parent(linked: OwnLink) -> Sought
 
 // The parent of an invoke request is an invocation that this end received.
 pub(crate) fn peer_parent(linked: PeerLink) -> Sought
-    ensures { λ r. ⌜ ((s : State) → soughtIn s r ≡ foundBy (readPeerLink linked) (peerRecords s)) ⌝ }
+    ensures { λ r. ⌜ ((own peer : List Record) → soughtIn own peer r ≡ foundBy (readPeerLink linked) peer) ⌝ }
 {
     match linked {
         PeerLink::To(id) => Sought::Peer(id),

@@ -58,6 +58,7 @@ pub(crate) fn refusal(number: u8) -> Refusal
         15 => Refusal::LargeApdu,
         16 => Refusal::WrongProblem,
         21 => Refusal::TrailingOctets,
+        22 => Refusal::IdResting,
         _ => Refusal::UnsoundState,
     }
 }

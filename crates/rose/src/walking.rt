@@ -8,12 +8,13 @@ use records::lent::code_at;
 use records::lent::live;
 ghost use mathlib.Core.Path.{_≡_};
 ghost use mathlib.Core.Bool.{cond, _&&_};
+ghost use mathlib.Core.List.{_++_};
 ghost use Prim.Native.Nat.{_+_, _-_, _≤_, _<_};
 ghost use lib.Dec.{eqb, ltb};
 ghost use Rattle.records.specs.Limits.{records};
-ghost use Rattle.records.specs.Records.{codeOf, nameIn, lent};
+ghost use Rattle.records.specs.Records.{codeOf, nameIn, lent, view};
 ghost use Rattle.optable.specs.Read.{classAt};
-ghost use Rattle.rose.specs.Steps.{both, live, Walked};
+ghost use Rattle.rose.specs.Steps.{Walked};
 
 // What one walk over the live records of both sides tells.
 pub(crate) struct Walk {
@@ -80,7 +81,7 @@ pub(crate) fn walk_records<'a>(
     asked: usize,
     code: Code,
 ) -> Walk
-    ensures { λ r. ⌜ Walked (now (table .entry)) (live (both (lent «own_count» (now («own_ids» .entry)) (now («own_lengths» .entry)) (now («own_highs» .entry)) (now («own_lows» .entry))) (lent «peer_count» (now («peer_ids» .entry)) (now («peer_lengths» .entry)) (now («peer_highs» .entry)) (now («peer_lows» .entry))))) asked code r ⌝ }
+    ensures { λ r. ⌜ Walked (now (table .entry)) (view (lent «own_count» (now («own_ids» .entry)) (now («own_lengths» .entry)) (now («own_highs» .entry)) (now («own_lows» .entry))) ++ view (lent «peer_count» (now («peer_ids» .entry)) (now («peer_lengths» .entry)) (now («peer_highs» .entry)) (now («peer_lows» .entry)))) asked code r ⌝ }
 {
     let own = live(own_count, own_ids);
     let n = own + live(peer_count, peer_ids);

@@ -13,7 +13,7 @@ use Rattle.rose.proofs.error.Statement.{statement}
 use Rattle.rose.proofs.error.Tie as tie
 
 abbrev start : tie.After-check-error → tie.Start
-start c = c .before .before .before .before .before .before .before .before .before .before .before .before .before .before .before
+start c = c .before .before .before .before .before .before .before .before .before .before .before .before .before .before .before .before
 
 abbrev call : tie.Start → Call
 call c = error (c .args .id .0) (c .args .code) (c .args .value .now) (length (c .args .out .now))
@@ -24,7 +24,7 @@ verdict c = c .check-error .ensures (start c .args .t1) 0 (c .before .before .op
 returns : tie.Need-returns
 returns c =
     let why = c .before .before in let checked = why .before .before in let b = start checked .args in
-    request-refused (b .table .now) (b .t1) (call (start checked)) _ (verdict checked) (why .why .given .0 .0) (cc) (b .value .now) (b .out .now) _
+    request-refused (b .table .now) (b .t1) (call (start checked)) _ (verdict checked) (why .why .given .0 .0) (why .why .given .1) (b .value .now) (b .out .now) _
     (checked .before .check-value .ensures inApdu refl .place) _ (c .refused .ensures)
 
 passes : (a : tie.After-enum-told) → a .before .before .check-error .result ≡ Passes

@@ -12,7 +12,7 @@ use Rattle.rose.proofs.forget.Statement.{statement}
 use Rattle.rose.proofs.forget.Tie as tie
 
 abbrev start : tie.After-check-forget → tie.Start
-start c = c .before .before .before .before .before .before .before .before .before .before .before .before .before
+start c = c .before .before .before .before .before .before .before .before .before .before .before .before .before .before
 
 verdict : (c : tie.After-check-forget) → Judged (start c .args .table .now) (start c .args .t1) (forgetting (start c .args .invocation)) (c .check-forget .result)
 verdict c =
@@ -22,7 +22,7 @@ verdict c =
 returns : tie.Need-returns
 returns c =
     let why = c .before .before in let checked = why .before .before in let b = start checked .args in
-    request-refused (b .table .now) (b .t1) (forgetting (b .invocation)) _ (verdict checked) (why .why .given .0 .0) (cc) [] [] 0 no-octets _ (c .refused .ensures)
+    request-refused (b .table .now) (b .t1) (forgetting (b .invocation)) _ (verdict checked) (why .why .given .0 .0) (why .why .given .1) [] [] 0 no-octets _ (c .refused .ensures)
 
 passes : (a : tie.After-enum-told) → a .before .before .check-forget .result ≡ Passes
 passes a = cc

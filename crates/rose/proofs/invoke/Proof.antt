@@ -6,7 +6,7 @@ use Rattle.optable.specs.Lookup.{classOf}
 use Rattle.optable.proofs.TableLaws.{operation-there}
 use Rattle.apdu.specs.Reading.{readPeerLink}
 use Rattle.protocol.specs.Call.{Call, invoke}
-use Rattle.protocol.specs.Check.{inApdu}
+use Rattle.protocol.specs.Check.{inApdu, ownRecords, peerRecords}
 use Rattle.protocol.specs.Perform.{done}
 use Rattle.protocol.proofs.Facts.{invoke-facts}
 use Rattle.rose.proofs.Verdicts.{checks-valid}
@@ -24,23 +24,29 @@ value-checked c = c .before .before .before
 abbrev placed : tie.After-check-invoke → tie.After-operation-place
 placed c = value-checked c .before
 
+abbrev resting : tie.After-check-invoke → tie.After-is-resting
+resting c = placed c .before
+
+abbrev opened : tie.After-check-invoke → tie.After-opening-of
+opened c = resting c .before .before .before
+
 abbrev start : tie.After-check-invoke → tie.Start
-start c = placed c .before .before .before .before .before .before .before .before .before .before .before .before .before .before .before .before .before .before
+start c = opened c .before .before .before .before .before .before .before .before .before .before .before .before .before .before .before .before .before .before
 
 abbrev call : tie.Start → Call
 call c = invoke (c .args .id .0) (c .args .code) (readPeerLink (c .args .linked)) (c .args .value .now) (length (c .args .out .now))
 
 verdict : (c : tie.After-check-invoke) → Judged (start c .args .table .now) (start c .args .t1) (call (start c)) (c .check-invoke .result)
 verdict c =
-    let opened = placed c .before in let b = start c .args in let T = b .table .now in let s = b .t1 in
-    c .check-invoke .ensures (s .own .lengths) (s .own .highs) (s .own .lows) (s .peer)
-    (opens-as T s _ _ _ _ _ (opened .before .before .live .ensures ∙ live-length (s .own .count) (s .own .ids) (s .own .lengths) (s .own .highs) (s .own .lows)) (opened .before .peer-parent .ensures s) (opened .opening-of .ensures))
-    (placed c .operation-place .ensures) (value-checked c .check-value .ensures inApdu refl)
+    let o = opened c in let b = start c .args in let T = b .table .now in let s = b .t1 in
+    c .check-invoke .ensures s (s .own .lengths) (s .own .highs) (s .own .lows)
+    (opens-as T s _ _ _ _ _ (o .before .before .live .ensures ∙ live-length (s .own .count) (s .own .ids) (s .own .lengths) (s .own .highs) (s .own .lows)) (o .before .peer-parent .ensures (ownRecords s) (peerRecords s)) (o .opening-of .ensures))
+    (placed c .operation-place .ensures) (value-checked c .check-value .ensures inApdu refl) (resting c .is-resting .ensures)
 
 returns : tie.Need-returns
 returns c =
     let why = c .before .before in let checked = why .before .before in let b = start checked .args in
-    request-refused (b .table .now) (b .t1) (call (start checked)) _ (verdict checked) (why .why .given .0 .0) (cc) (b .value .now) (b .out .now) _
+    request-refused (b .table .now) (b .t1) (call (start checked)) _ (verdict checked) (why .why .given .0 .0) (why .why .given .1) (b .value .now) (b .out .now) _
     (value-checked checked .check-value .ensures inApdu refl .place) _ (c .refused .ensures)
 
 passes : (a : tie.After-enum-told) → a .before .before .check-invoke .result ≡ Passes
@@ -61,7 +67,7 @@ returns-2 c =
 pub invoke-spec : {M : Type 1} → statement M
 invoke-spec =
     tie.close
-    (tie.spec (λ c κs. search needs) (λ c κs. search needs) (λ c κs. search needs) (λ c κs. search needs) (λ c. search needs) (λ c κs. search needs)
+    (tie.spec (λ c κs. search needs) (λ c κs. search needs) (λ c κs. search needs) (λ c κs. search needs) (λ c κs. search needs) (λ c. search needs) (λ c κs. search needs)
     (λ c κs. search needs) (λ c. search needs)
     (λ c κs. search needs) (λ c. search needs) (λ c κs. search needs) (λ c κs. search needs) (λ c κs. search needs) (λ c κs. search needs)
     (λ c κs. search needs) returns (λ c. search needs) returns-2)

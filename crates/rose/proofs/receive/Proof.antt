@@ -3,7 +3,7 @@ use mathlib.Core.Path.{_≡_, refl, ap, _∙_}
 use lib.ListN.{length}
 use Rattle.apdu.specs.Parse.{Apdu, parse}
 use Rattle.apdu.specs.Reading.{readParsed}
-use Rattle.protocol.specs.Check.{ownRecords}
+use Rattle.protocol.specs.Check.{ownRecords, peerRecords}
 use Rattle.protocol.specs.Call.{Call, receive}
 use Rattle.rose.specs.declared.verdict.Verdict.the-variants.{Passes}
 use Rattle.rose.specs.Steps.{Judged, leadsTo, faultIn, StandsAt}
@@ -15,7 +15,7 @@ use Rattle.rose.proofs.receive.Statement.{statement}
 use Rattle.rose.proofs.receive.Tie as tie
 
 abbrev start : tie.After-check-receive → tie.Start
-start c = c .before .before .before .before .before .before .before .before .before .before .before .before .before .before .before .before
+start c = c .before .before .before .before .before .before .before .before .before .before .before .before .before .before .before .before .before
 
 abbrev opened : tie.After-check-receive → tie.After-opening-of
 opened c = c .before
@@ -35,16 +35,16 @@ passes a = cc
 returns : tie.Need-returns
 returns c =
     let why = c .before .before in let checked = why .before .before in let b = start checked .args in
-    receive-refused (b .table .now) (b .t1) (call (start checked)) _ (verdict checked) (why .why .given .0 .0) (cc) (b .apdu .now) (b .out .now) (receive-unnamed (b .table .now) (b .t1) (b .apdu .now) (length (b .out .now))) _ (c .unheard .ensures)
+    receive-refused (b .table .now) (b .t1) (call (start checked)) _ (verdict checked) (why .why .given .0 .0) (why .why .given .1) (b .apdu .now) (b .out .now) (receive-unnamed (b .table .now) (b .t1) (b .apdu .now) (length (b .out .now))) _ (c .unheard .ensures)
 
 -- where the checks pass: the APDU is as it was parsed, and the operation of the record that it leads to stands where the walk says
 module _ (c : tie.After-check-receive) (o : c .check-receive .result ≡ Passes) where
-  parsed : readParsed (start c .args .apdu .now) (sought c .before .before .before .before .before .before .before .before .before .before .read .result) ≡ parse (start c .args .apdu .now)
-  parsed = let b = start c .args in sought c .before .before .before .before .before .before .before .before .before .before .read .ensures (short (b .table .now) (b .t1) (b .apdu .now) (b .out .now) _ (verdict c) o)
+  parsed : readParsed (start c .args .apdu .now) (sought c .before .before .before .before .before .before .before .before .before .before .before .read .result) ≡ parse (start c .args .apdu .now)
+  parsed = let b = start c .args in sought c .before .before .before .before .before .before .before .before .before .before .before .read .ensures (short (b .table .now) (b .t1) (b .apdu .now) (b .out .now) _ (verdict c) o)
 
   leads : opened c .opening-of .result .found ≡ leadsTo (parse (start c .args .apdu .now)) (ownRecords (start c .args .t1))
   leads =
-      opened c .opening-of .ensures .found ∙ sought c .leads-to .ensures (start c .args .apdu .now) (start c .args .t1)
+      opened c .opening-of .ensures .found ∙ sought c .leads-to .ensures (start c .args .apdu .now) (ownRecords (start c .args .t1)) (peerRecords (start c .args .t1))
       ∙ ap (λ (a : Apdu). leadsTo a (ownRecords (start c .args .t1))) parsed
 
   stands : StandsAt (start c .args .table .now) (opened c .opening-of .result .found) (opened c .opening-of .result .entry)
@@ -61,7 +61,7 @@ returns-2 : tie.Need-returns-2
 returns-2 c =
     let changed = c .before in let written = changed .before .before .before in let arrived = written .before .before in let told = arrived .before .before .before in
     let checked = told .before .before in let b = start checked .args in
-    received (b .table .now) (b .t1) (b .apdu .now) (b .out .now) _ (verdict checked) (passes told) (arrived .arrive .result) (arrived .arrive .ensures (b .t1 .own) (b .t1 .peer .lengths) (b .t1 .peer .highs) (b .t1 .peer .lows) (leads checked (passes told))) _ (changed .changed .ensures) _ _
+    received (b .table .now) (b .t1) (b .apdu .now) (b .out .now) _ (verdict checked) (passes told) (arrived .arrive .result) (arrived .arrive .ensures (b .t1) (b .t1 .peer .lengths) (b .t1 .peer .highs) (b .t1 .peer .lows) (leads checked (passes told))) _ (changed .changed .ensures) _ _
     (written .write-answer .ensures) _ (c .fault-in .ensures (b .apdu .now) ∙ ap faultIn (parsed checked (passes told)))
 
 pub receive-spec : {M : Type 1} → statement M

@@ -13,7 +13,7 @@ use Rattle.rose.proofs.reject.Statement.{statement}
 use Rattle.rose.proofs.reject.Tie as tie
 
 abbrev start : tie.After-check-reject → tie.Start
-start c = c .before .before .before .before .before .before .before .before .before .before .before .before .before
+start c = c .before .before .before .before .before .before .before .before .before .before .before .before .before .before
 
 abbrev call : tie.Start → Call
 call c = reject (c .args .id .0) (c .args .problem) (length (c .args .out .now))
@@ -24,7 +24,7 @@ verdict c = c .check-reject .ensures (start c .args .table .now) (start c .args 
 returns : tie.Need-returns
 returns c =
     let why = c .before .before in let checked = why .before .before in let b = start checked .args in
-    request-refused (b .table .now) (b .t1) (call (start checked)) _ (verdict checked) (why .why .given .0 .0) (cc) [] (b .out .now) 0 no-octets _ (c .refused .ensures)
+    request-refused (b .table .now) (b .t1) (call (start checked)) _ (verdict checked) (why .why .given .0 .0) (why .why .given .1) [] (b .out .now) 0 no-octets _ (c .refused .ensures)
 
 passes : (a : tie.After-enum-told) → a .before .before .check-reject .result ≡ Passes
 passes a = cc

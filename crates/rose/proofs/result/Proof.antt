@@ -15,7 +15,7 @@ use Rattle.rose.proofs.result.Statement.{statement}
 use Rattle.rose.proofs.result.Tie as tie
 
 abbrev start : tie.After-check-result → tie.Start
-start c = c .before .before .before .before .before .before .before .before .before .before .before .before .before .before .before
+start c = c .before .before .before .before .before .before .before .before .before .before .before .before .before .before .before .before
 
 abbrev call : tie.Start → Call
 call c = result (c .args .id .0) (c .args .value .now) (length (c .args .out .now))
@@ -26,7 +26,7 @@ verdict c = c .check-result .ensures (start c .args .t1) 0 (c .before .before .o
 returns : tie.Need-returns
 returns c =
     let why = c .before .before in let checked = why .before .before in let b = start checked .args in
-    request-refused (b .table .now) (b .t1) (call (start checked)) _ (verdict checked) (why .why .given .0 .0) (cc) (b .value .now) (b .out .now) _
+    request-refused (b .table .now) (b .t1) (call (start checked)) _ (verdict checked) (why .why .given .0 .0) (why .why .given .1) (b .value .now) (b .out .now) _
     (checked .before .check-value .ensures inBody refl .place) _ (c .refused .ensures)
 
 passes : (a : tie.After-enum-told) → a .before .before .check-result .result ≡ Passes

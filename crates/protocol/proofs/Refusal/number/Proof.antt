@@ -1,7 +1,7 @@
 -- Refusal by refusal.
 use mathlib.Core.Path.{_≡_, sym, ap}
 use Rattle.protocol.specs.declared.Refusal.{Refusal as Reason}
-use Rattle.protocol.specs.declared.Refusal.the-variants.{InvalidTable, ShortOutput, LongInput, UnknownOperation, IdInUse, SynchronousLive, UnknownLinkedId, NotAChild, MalformedValue, MistypedValue, NoRecord, WrongClass, UnlistedError, RecordsFull, LargeApdu, WrongProblem, UnacceptableReject, Rejected, UnsoundState, TrailingOctets}
+use Rattle.protocol.specs.declared.Refusal.the-variants.{InvalidTable, ShortOutput, LongInput, UnknownOperation, IdInUse, SynchronousLive, UnknownLinkedId, NotAChild, MalformedValue, MistypedValue, NoRecord, WrongClass, UnlistedError, RecordsFull, LargeApdu, WrongProblem, UnacceptableReject, Rejected, UnsoundState, TrailingOctets, IdResting}
 use Rattle.protocol.specs.Call.{refusalNumber}
 use Rattle.protocol.specs.Reading.{readRefusal}
 use borrow.Author.Needs.{needs}
@@ -15,7 +15,7 @@ pub number-spec : {M : Type 1} → statement M
 unfolding readRefusal
 number-spec =
     tie.close
-    (tie.spec (λ c. search needs) (λ c. search needs) (λ c. search needs) (λ c. search needs) (λ c. search needs) (λ c. search needs)
+    (tie.spec (λ c. search needs) (λ c. search needs) (λ c. search needs) (λ c. search needs) (λ c. search needs) (λ c. search needs) (λ c. search needs)
     (λ c. search needs) (λ c. search needs) (λ c. search needs) (λ c. search needs) (λ c. search needs) (λ c. search needs)
     (λ c. search needs) (λ c. search needs) (λ c. search needs) (λ c. search needs) (λ c. search needs) (λ c. search needs)
     (λ c. search needs) (λ c. search needs) (λ c. numbers (c .before .before .args .self) InvalidTable (cc))
@@ -29,4 +29,4 @@ number-spec =
     (λ c. numbers (c .before .before .args .self) WrongProblem (cc)) (λ c. numbers (c .before .before .args .self) UnacceptableReject (cc))
     (λ c. let g = c .enum-told18 .given .0 in numbers (c .before .before .args .self) (Rejected (g .0) (g .1 .0) (g .1 .1 .0)) (cc))
     (λ c. numbers (c .before .before .args .self) UnsoundState (cc))
-    (λ c. numbers (c .before .before .args .self) TrailingOctets (cc)))
+    (λ c. numbers (c .before .before .args .self) TrailingOctets (cc)) (λ c. numbers (c .before .before .args .self) IdResting (cc)))

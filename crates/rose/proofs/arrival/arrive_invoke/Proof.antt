@@ -1,6 +1,7 @@
 -- A problem, or an indication.
 use mathlib.Core.Path.{_≡_, refl, subst, ap, _∙_}
 use Rattle.records.specs.Records.{lent}
+use Rattle.records.specs.State.{putPeer}
 use Rattle.codes.specs.declared.Code.{Code}
 use Rattle.optable.specs.declared.Part.the-variants.{Operations}
 use Rattle.optable.specs.Lookup.{classOf, PlaceOf}
@@ -11,7 +12,6 @@ use Rattle.protocol.specs.declared.Indication.the-variants.{Invoke}
 use Rattle.protocol.specs.Receive.{fieldCode, invokeChecks}
 use Rattle.protocol.specs.Reading.{readIndication}
 use Rattle.rose.specs.declared.verdict.Verdict.the-variants.{Passes, Fails}
-use Rattle.rose.specs.Steps.{both}
 use Rattle.rose.proofs.Arrivals.{has-problem, has-none, on-invoke}
 use borrow.Author.Needs.{needs}
 use Rattle.rose.proofs.arrival.arrive_invoke.Statement.{statement}
@@ -31,21 +31,21 @@ passed : (a : tie.After-enum-told) → a .before .before .check-invoke .result �
 passed a = cc
 
 returns : tie.Need-returns
-returns c = λ own lengths highs lows e.
+returns c = λ was lengths highs lows e.
     let number = c .before .before in let checked = number .before .before in let b = checked .before .before .before .before .before .args in
-    let T = b .table .now in let x = b .x .now in let s = both own (lent (b .count) (b .ids .now) lengths highs lows) in
+    let T = b .table .now in let x = b .x .now in let s = putPeer was (lent (b .count) (b .ids .now) lengths highs lows) in
     let i = b .id .0 in let l = readOwnLink (b .linked) in let f = b .field in let v = readValue x (b .value) in
-    has-problem T s x (invoke i l f v) i 0x81 (invokeChecks T s i l f v) _ (on-invoke T s x i l f v) _ (checked .check-invoke .ensures own lengths highs lows e) _ (number .number .given .0 .0)
+    has-problem T s x (invoke i l f v) i 0x81 (invokeChecks T s i l f v) _ (on-invoke T s x i l f v) _ (checked .check-invoke .ensures was lengths highs lows e) _ (number .number .given .0 .0)
     (failed number) (c .rejected .ensures)
 
 returns-2 : tie.Need-returns-2
 unfolding readIndication
-returns-2 c = λ own lengths highs lows e.
+returns-2 c = λ was lengths highs lows e.
     let added = c .before in let class = added .before in let named = class .before in let told = named .before in let checked = told .before .before in
     let place = checked .before in let code = place .before in let start = code .before .before .before in let b = start .args in
-    let T = b .table .now in let x = b .x .now in let s = both own (lent (b .count) (b .ids .now) lengths highs lows) in
+    let T = b .table .now in let x = b .x .now in let s = putPeer was (lent (b .count) (b .ids .now) lengths highs lows) in
     let i = b .id .0 in let l = readOwnLink (b .linked) in let f = b .field in let v = readValue x (b .value) in
-    has-none T s x (invoke i l f v) i 0x81 (invokeChecks T s i l f v) _ (on-invoke T s x i l f v) _ (checked .check-invoke .ensures own lengths highs lows e) _ (passed told) (added .added .result)
+    has-none T s x (invoke i l f v) i 0x81 (invokeChecks T s i l f v) _ (on-invoke T s x i l f v) _ (checked .check-invoke .ensures was lengths highs lows e) _ (passed told) (added .added .result)
     (Invoke (b .id) (b .linked) (code .field-code .result) (b .value))
     (rw (added .added .ensures T s (class .class .ensures ∙ ap classOf (named .operation-in .ensures ∙ operation-there T (start .pre .0) (code .field-code .result) _ (place .operation-place .ensures))), code .field-code .ensures) refl) (c .indicated .ensures)
 

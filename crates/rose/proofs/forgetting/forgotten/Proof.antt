@@ -8,7 +8,7 @@ use Rattle.rose.proofs.forgetting.forgotten.Tie as tie
 returns : tie.Need-returns
 returns c =
     let told = c .before .before in
-    c .retire-own .ensures ∙ ap (withoutInvocation (told .before .before .args .state)) (sym (told .invocation .given .1))
+    c .forget-own .ensures ∙ ap (withoutInvocation (told .before .before .args .state)) (sym (told .invocation .given .1))
 
 returns-2 : tie.Need-returns-2
 returns-2 c =

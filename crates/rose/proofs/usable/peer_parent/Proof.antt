@@ -6,10 +6,10 @@ use Rattle.rose.proofs.usable.peer_parent.Statement.{statement}
 use Rattle.rose.proofs.usable.peer_parent.Tie as tie
 
 returns : tie.Need-returns
-returns c = λ s. let linked = c .before in let p : linked .before .before .args .linked ≡ To (linked .linked .given .0 .0) = cc in rw p refl
+returns c = λ own peer. let linked = c .before in let p : linked .before .before .args .linked ≡ To (linked .linked .given .0 .0) = cc in rw p refl
 
 returns-2 : tie.Need-returns-2
-returns-2 c = λ s. let p : c .before .before .args .linked ≡ Absent = cc in rw p refl
+returns-2 c = λ own peer. let p : c .before .before .args .linked ≡ Absent = cc in rw p refl
 
 pub peer-parent-spec : {M : Type 1} → statement M
 peer-parent-spec = tie.close (tie.spec (λ c. search needs) (λ c. search needs) returns returns-2)

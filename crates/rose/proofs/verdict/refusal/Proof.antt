@@ -6,7 +6,7 @@ use Rattle.rose.proofs.Verdicts.{number-rest}
 use Rattle.rose.proofs.verdict.refusal.Statement.{statement}
 use Rattle.rose.proofs.verdict.refusal.Tie as tie
 
-others : tie.Need-returns-18
+others : tie.Need-returns-19
 unfolding readRefusal
 others c = λ h. ap plain (sym (number-rest (c .before .args .number) h (c .match .rest)))
 
@@ -15,4 +15,4 @@ unfolding readRefusal
 refusal-spec =
     tie.close
     (tie.spec (λ c h. cc) (λ c h. cc) (λ c h. cc) (λ c h. cc) (λ c h. cc) (λ c h. cc) (λ c h. cc) (λ c h. cc) (λ c h. cc) (λ c h. cc)
-    (λ c h. cc) (λ c h. cc) (λ c h. cc) (λ c h. cc) (λ c h. cc) (λ c h. cc) (λ c h. cc) others)
+    (λ c h. cc) (λ c h. cc) (λ c h. cc) (λ c h. cc) (λ c h. cc) (λ c h. cc) (λ c h. cc) (λ c h. cc) others)

@@ -4,7 +4,7 @@ use native.Mathlib.Omega.{arith}
 use mathlib.Core.Path.{_≡_, refl, sym, _∙_}
 use mathlib.Core.Logic.{_⊎_, inr}
 use mathlib.Core.Bool.{true, false, _||_, true≢false}
-use mathlib.Core.List.{List}
+use mathlib.Core.List.{List, _++_}
 use lib.ListN.{length, take, drop, length-take, length-append}
 use Rattle.records.specs.declared.Record.{Record}
 use Rattle.records.specs.Limits.{records}
@@ -15,7 +15,7 @@ use Rattle.codes.specs.declared.Place.the-variants.{At}
 use Rattle.optable.specs.Validity.{valid}
 use Rattle.optable.specs.Lookup.{PlaceOf}
 use Rattle.protocol.specs.Check.{covered, isBusy}
-use Rattle.rose.specs.Steps.{both, live, invoked}
+use Rattle.rose.specs.Steps.{invoked}
 use Rattle.rose.proofs.WalkAnswers.{Next, next, covered-not, covered-next, busy-next, entry-next, covered-end, busy-end, entry-end}
 use borrow.Author.Needs.{needs}
 use Rattle.rose.proofs.walking.walk_records.Statement.{statement}
@@ -23,7 +23,7 @@ use Rattle.rose.proofs.walking.walk_records.Tie as tie
 
 -- the live records whose fields are lent
 abbrev all : ℕ → List ℕ → List ℕ → List ℕ → List ℕ → ℕ → List ℕ → List ℕ → List ℕ → List ℕ → List Record
-all oc oi ol oh ow pc pi pl ph pw = live (both (lent oc oi ol oh ow) (lent pc pi pl ph pw))
+all oc oi ol oh ow pc pi pl ph pw = view (lent oc oi ol oh ow) ++ view (lent pc pi pl ph pw)
 
 abbrev Inv-loop : tie.InvT-loop
 Inv-loop oc oi ol oh ow pc pi pl ph pw table asked code own n b₀ e₀ i₀ busy entry i =
