@@ -3,7 +3,7 @@ use Prim.Native.Nat.{ℕ, suc, _+_, _-_, _≤_, _<_}
 use native.Mathlib.Numerals.{add-one}
 use native.Mathlib.Omega.{arith}
 use mathlib.Core.Path.{_≡_, refl, sym, ap, subst, _∙_}
-use mathlib.Core.Bool.{Bool, true, false, cond, not, _&&_}
+use mathlib.Core.Bool.{Bool, true, false, cond, not}
 use mathlib.Core.List.{List, [], _∷_, _++_, append-assoc}
 use mathlib.Core.Logic.{_⊎_, inl, inr}
 use lib.Dec.{eqb, leb}
@@ -15,7 +15,7 @@ use Rattle.records.specs.declared.Record.{Record}
 use Rattle.records.specs.declared.Resting.{Resting}
 use Rattle.records.specs.Limits.{resting}
 use Rattle.records.specs.Records.{member, without}
-use Rattle.records.specs.Resting.{among, eachOnce, noneLive, allZero, viewIds, packIds, soundResting, staying, rested}
+use Rattle.records.specs.Resting.{among, eachOnce, noneLive, viewIds, packIds, soundResting, staying, rested}
 use Rattle.records.proofs.IdLaws.{never-both, one-less, among-added, once-added, zero-replicate, zero-is-replicate}
 use Rattle.records.proofs.Laws.{member-added, member-without, lookup-retired, nothing-is-absent}
 

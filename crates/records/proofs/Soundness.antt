@@ -16,7 +16,7 @@ use Rattle.records.specs.declared.Records.{Records}
 use Rattle.records.specs.declared.State.{State}
 use Rattle.records.specs.Limits.{records, resting}
 use Rattle.records.specs.Records.{unused, places, side, view, pack, member, without, distinct, formed, blank, soundRecords, added, retired}
-use Rattle.records.specs.Resting.{packIds, viewIds, soundResting}
+use Rattle.records.specs.Resting.{packIds, viewIds}
 use Rattle.records.specs.State.{fresh, soundState}
 use Rattle.records.proofs.IdLaws.{one-less}
 use Rattle.records.proofs.Stored.{Storable, storable-rows, storable-take, storable-without, storable-append, storable-unused, storable-formed}

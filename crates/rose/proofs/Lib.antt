@@ -6,4 +6,4 @@ mod Arrivals
 mod Written
 mod Calls
 mod Faults
-mod Receiving
+mod ReceiveLaws

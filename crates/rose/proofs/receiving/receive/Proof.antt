@@ -9,10 +9,10 @@ use Rattle.rose.specs.declared.verdict.Verdict.the-variants.{Passes}
 use Rattle.rose.specs.Steps.{Judged, leadsTo, faultIn, StandsAt}
 use Rattle.rose.proofs.Verdicts.{checks-valid, opened-passes, receive-unnamed}
 use Rattle.rose.proofs.Calls.{receive-refused, all-pass}
-use Rattle.rose.proofs.Receiving.{short, received}
+use Rattle.rose.proofs.ReceiveLaws.{short, received}
 use borrow.Author.Needs.{needs}
-use Rattle.rose.proofs.receive.Statement.{statement}
-use Rattle.rose.proofs.receive.Tie as tie
+use Rattle.rose.proofs.receiving.receive.Statement.{statement}
+use Rattle.rose.proofs.receiving.receive.Tie as tie
 
 abbrev start : tie.After-check-receive → tie.Start
 start c = c .before .before .before .before .before .before .before .before .before .before .before .before .before .before .before .before .before

@@ -11,8 +11,8 @@ use Rattle.rose.proofs.Calls.{request-refused, request-accepted, all-pa
 use Rattle.rose.specs.declared.verdict.Verdict.the-variants.{Passes}
 use Rattle.rose.specs.Steps.{Judged}
 use borrow.Author.Needs.{needs}
-use Rattle.rose.proofs.result.Statement.{statement}
-use Rattle.rose.proofs.result.Tie as tie
+use Rattle.rose.proofs.requesting.result.Statement.{statement}
+use Rattle.rose.proofs.requesting.result.Tie as tie
 
 abbrev start : tie.After-check-result → tie.Start
 start c = c .before .before .before .before .before .before .before .before .before .before .before .before .before .before .before .before

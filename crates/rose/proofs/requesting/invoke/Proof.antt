@@ -15,8 +15,8 @@ use Rattle.rose.specs.declared.verdict.Verdict.the-variants.{Passes}
 use Rattle.rose.specs.Steps.{Judged}
 use Rattle.rose.proofs.UsableAnswers.{opens-as}
 use borrow.Author.Needs.{needs}
-use Rattle.rose.proofs.invoke.Statement.{statement}
-use Rattle.rose.proofs.invoke.Tie as tie
+use Rattle.rose.proofs.requesting.invoke.Statement.{statement}
+use Rattle.rose.proofs.requesting.invoke.Tie as tie
 
 abbrev value-checked : tie.After-check-invoke → tie.After-check-value
 value-checked c = c .before .before .before

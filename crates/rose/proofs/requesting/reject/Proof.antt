@@ -9,8 +9,8 @@ use Rattle.rose.specs.declared.verdict.Verdict.the-variants.{Passes}
 use Rattle.rose.specs.Steps.{Judged}
 use Rattle.rose.proofs.PartAnswers.{no-octets}
 use borrow.Author.Needs.{needs}
-use Rattle.rose.proofs.reject.Statement.{statement}
-use Rattle.rose.proofs.reject.Tie as tie
+use Rattle.rose.proofs.requesting.reject.Statement.{statement}
+use Rattle.rose.proofs.requesting.reject.Tie as tie
 
 abbrev start : tie.After-check-reject → tie.Start
 start c = c .before .before .before .before .before .before .before .before .before .before .before .before .before .before

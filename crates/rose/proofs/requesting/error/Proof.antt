@@ -9,8 +9,8 @@ use Rattle.rose.proofs.Calls.{request-refused, request-accepted, all-pa
 use Rattle.rose.specs.declared.verdict.Verdict.the-variants.{Passes}
 use Rattle.rose.specs.Steps.{Judged}
 use borrow.Author.Needs.{needs}
-use Rattle.rose.proofs.error.Statement.{statement}
-use Rattle.rose.proofs.error.Tie as tie
+use Rattle.rose.proofs.requesting.error.Statement.{statement}
+use Rattle.rose.proofs.requesting.error.Tie as tie
 
 abbrev start : tie.After-check-error → tie.Start
 start c = c .before .before .before .before .before .before .before .before .before .before .before .before .before .before .before .before

@@ -8,8 +8,8 @@ use Rattle.rose.proofs.Calls.{request-refused, forget-accepted}
 use Rattle.rose.proofs.UsableAnswers.{opens-as}
 use Rattle.rose.proofs.PartAnswers.{no-octets}
 use borrow.Author.Needs.{needs}
-use Rattle.rose.proofs.forget.Statement.{statement}
-use Rattle.rose.proofs.forget.Tie as tie
+use Rattle.rose.proofs.requesting.forget.Statement.{statement}
+use Rattle.rose.proofs.requesting.forget.Tie as tie
 
 abbrev start : tie.After-check-forget → tie.Start
 start c = c .before .before .before .before .before .before .before .before .before .before .before .before .before .before
