@@ -43,7 +43,7 @@ test:
 	cat "$$second"
 	tests/second/target/release/second examples target/bin/drive places
 	tests/second/target/release/second compare target/bin/drive 120 2000 places
-	tests/second/target/release/second ends target/bin/drive 1 20000
+	tests/second/target/release/second ends target/bin/drive 1 60000
 	tests/second/target/release/second tables target/bin/tabcheck target/bin/tabmake 1 600
 	tests/second/target/release/second replays target/bin/replay 1 600
 	echo "$$last"

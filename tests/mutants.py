@@ -17,7 +17,7 @@ import tempfile
 
 SECOND = pathlib.Path(__file__).resolve().parent / "second"
 SEEDS, CALLS = "120", "2000"
-ENDS_CALLS = "20000"
+ENDS_CALLS = "60000"
 REPLAYS_SEED, REPLAYS_COUNT = "1", "400"
 
 # File, what the change is, the text, the text in its place; a fifth item means that `ends` must find it too.
@@ -137,8 +137,8 @@ MUTANTS = [
     ("engine.rs", "14 before 9 and 10", "    let levels = value_levels(value, operation.argument)?;\n    if operation.class != 5 && state.own.is_full() {\n        return Err(Refusal::OwnRecordsFull);\n    }\n",
      "    if operation.class != 5 && state.own.is_full() {\n        return Err(Refusal::OwnRecordsFull);\n    }\n    let levels = value_levels(value, operation.argument)?;\n"),
     ("engine.rs", "a class 5 invoke makes a record", "    if operation.class != 5 {\n        state.own.add(id, operation.code);\n    }\n", "    if !state.own.is_full() {\n        state.own.add(id, operation.code);\n    }\n"),
-    ("engine.rs", "6 before 5", "    if state.own.find(id).is_some() {\n        return Err(Refusal::IdInUse);\n    }\n    let class = |code| table.operation(code).map(|operation| operation.class);\n    if state.own.live().iter().any(|record| class(&record.code) == Some(1)) {\n        return Err(Refusal::SynchronousInvocationLive);\n    }\n",
-     "    let class = |code| table.operation(code).map(|operation| operation.class);\n    if state.own.live().iter().any(|record| class(&record.code) == Some(1)) {\n        return Err(Refusal::SynchronousInvocationLive);\n    }\n    if state.own.find(id).is_some() {\n        return Err(Refusal::IdInUse);\n    }\n"),
+    ("engine.rs", "6 before 5", "    if state.own.find(id).is_some() {\n        return Err(Refusal::IdInUse);\n    }\n",
+     "    let is_class_1 = |record: &crate::state::Record| table.operation(&record.code).is_some_and(|operation| operation.class == 1);\n    if state.own.find(id).is_some() {\n        let blocked = state.own.live().iter().any(is_class_1);\n        return Err(if blocked { Refusal::SynchronousInvocationLive } else { Refusal::IdInUse });\n    }\n"),
     ("engine.rs", "7 before 6", "    let class = |code| table.operation(code).map(|operation| operation.class);\n",
      "    if linked.is_some_and(|linked| state.peer.find(linked).is_none()) {\n        return Err(Refusal::UnknownLinkedId);\n    }\n    let class = |code| table.operation(code).map(|operation| operation.class);\n"),
     ("engine.rs", "9 before 7 and 8", "    let class = |code| table.operation(code).map(|operation| operation.class);\n",
@@ -288,6 +288,58 @@ MUTANTS = [
     ("engine.rs", "a result's name over 16 octets not compared", "code != Some(operation.code))", "code.is_some_and(|code| code != operation.code))"),
     ("engine.rs", "a caller's name that no table can have refused with 10", "code.code().and_then(|code| table.operation(&code)).ok_or(Refusal::UnknownOperation)?;", "table.operation(&code.code().ok_or(Refusal::ValueRuleBroken)?).ok_or(Refusal::UnknownOperation)?;"),
     ("engine.rs", "an error's name looked up among operations", "let error = code.code().and_then(|code| table.error(&code));", "let error = code.code().filter(|code| matches!(code, Code::Local(_)) || table.operation(code).is_none()).and_then(|code| table.error(&code));"),
+    ("resting.rs", "the newest leaves in place of the oldest", "            self.places.copy_within(1.., 0);\n", "", "ends"),
+    ("resting.rs", "the oldest leaves when the 64th enters", "if usize::from(self.count) == State::RESTING {", "if usize::from(self.count) >= State::RESTING - 1 {", "ends"),
+    ("resting.rs", "no id enters where 64 rest", "            self.places.copy_within(1.., 0);\n            self.count -= 1;\n", "            return;\n", "ends"),
+    ("resting.rs", "all leave when the 65th enters", "            self.places.copy_within(1.., 0);\n            self.count -= 1;\n", "            *self = Resting::none();\n", "ends"),
+    ("resting.rs", "a new id goes first", "        self.places[usize::from(self.count)] = id;\n", "        self.places.copy_within(..State::RESTING - 1, 1);\n        self.places[0] = id;\n", "ends"),
+    ("resting.rs", "an id twice not seen", "is_among(&ids[..at], id) || ", ""),
+    ("resting.rs", "an id twice seen between neighbours only", "is_among(&ids[..at], id)", "is_among(&ids[at.saturating_sub(1)..at], id)"),
+    ("resting.rs", "an id twice not seen where the first is the oldest", "is_among(&ids[..at], id)", "is_among(&ids[at.min(1)..at], id)"),
+    ("resting.rs", "an id twice not seen where the second is the 64th", "(0..ids.len()).any(", "(0..ids.len().min(State::RESTING - 1)).any("),
+    ("resting.rs", "0 twice not seen", "is_among(&ids[..at], id)", "(id != 0 && is_among(&ids[..at], id))"),
+    ("resting.rs", "flags taken for ids", " && (is_among(&ids[..at], id) || own.find(id).is_some())", ""),
+    ("resting.rs", "an own record's id not seen", " || own.find(id).is_some())", ")"),
+    ("resting.rs", "the flags of own records not set", "        own.live().iter().for_each(|record| flags[flag(record.id)] = true);\n", ""),
+    ("resting.rs", "only the first own record's id seen", "own.find(id).is_some()", "own.find(id) == Some(0)"),
+    ("resting.rs", "unused places not looked at", "            && self.places[count..].iter().fold(0, |rubbish, id| rubbish | id) == 0\n", ""),
+    ("resting.rs", "the first unused place not looked at", "self.places[count..].iter()", "self.places[count..].iter().skip(1)"),
+    ("resting.rs", "the last unused place not looked at", "self.places[count..].iter()", "self.places[count..].iter().take(State::RESTING - 1 - count.min(State::RESTING - 1))"),
+    ("resting.rs", "unused places not looked at where none rests", "        count <= State::RESTING\n            && self", "        count == 0 || count <= State::RESTING\n            && self"),
+    ("resting.rs", "a count over 64 sound", "        let count = usize::from(self.count);\n", "        let count = usize::from(self.count).min(State::RESTING);\n"),
+    ("resting.rs", "a count of 65 sound", "        let count = usize::from(self.count);\n", "        let count = usize::from(self.count) - usize::from(self.count == 65);\n"),
+    ("resting.rs", "a resting 0 is no resting id", "is_among(self.ids(), id)\n", "id != 0 && is_among(self.ids(), id)\n"),
+    ("resting.rs", "only the newest id refused", "is_among(self.ids(), id)\n", "self.ids().last() == Some(&id)\n"),
+    ("resting.rs", "the oldest of 64 not refused", "is_among(self.ids(), id)\n", "is_among(&self.places[usize::from(self.count == 64)..self.ids().len()], id)\n"),
+    ("resting.rs", "an id of the same remainder refused", "found | (*other == id)", "found | (flag(*other) == flag(id))"),
+    ("state.rs", "resting ids not part of a sound state", " && self.resting.is_sound(&self.own)", ""),
+    ("state.rs", "a resting id among the peer records seen", "self.resting.is_sound(&self.own)", "self.resting.is_sound(&self.own) && !self.peer.live().iter().any(|record| self.resting.contains(record.id))"),
+    ("state.rs", "a resting id looked for among peer records only", "self.resting.is_sound(&self.own)", "self.resting.is_sound(&self.peer)"),
+    ("engine.rs", "22 for a resting id before 4", "    let operation = code.code().and_then(|code| table.operation(&code)).ok_or(Refusal::UnknownOperation)?;\n",
+     "    if state.resting.contains(id) {\n        return Err(Refusal::IdResting);\n    }\n    let operation = code.code().and_then(|code| table.operation(&code)).ok_or(Refusal::UnknownOperation)?;\n"),
+    ("engine.rs", "22 for a resting id after 6", "    if state.resting.contains(id) {\n",
+     "    let is_class_1 = |record: &crate::state::Record| table.operation(&record.code).is_some_and(|operation| operation.class == 1);\n    if state.resting.contains(id) && !state.own.live().iter().any(is_class_1) {\n"),
+    ("engine.rs", "22 for a resting id after 7", "    if state.resting.contains(id) {\n", "    if state.resting.contains(id) && linked.is_none_or(|linked| state.peer.find(linked).is_some()) {\n"),
+    ("engine.rs", "22 for a resting id after 9 and 21", "    if state.resting.contains(id) {\n", "    if state.resting.contains(id) && (value.is_empty() || octets::levels(value, State::LEVELS).is_some()) {\n"),
+    ("engine.rs", "22 for a resting id after 14", "    if state.resting.contains(id) {\n", "    if state.resting.contains(id) && !state.own.is_full() {\n"),
+    ("engine.rs", "a resting id allowed for class 5", "    if state.resting.contains(id) {\n", "    if operation.class != 5 && state.resting.contains(id) {\n"),
+    ("engine.rs", "a resting id allowed for linked invokes", "    if state.resting.contains(id) {\n", "    if linked.is_none() && state.resting.contains(id) {\n"),
+    ("engine.rs", "a resting id allowed", "    if state.resting.contains(id) {\n", "    if false {\n", "ends"),
+    ("engine.rs", "a resting id refused with 5", "return Err(Refusal::IdResting);", "return Err(Refusal::IdInUse);"),
+    ("engine.rs", "a refused invoke takes its resting id out", "        return Err(Refusal::IdResting);\n", "    if let Some(at) = state.resting.ids().iter().position(|other| *other == id) {\n        state.resting.places.copy_within(at + 1.., at);\n        state.resting.count -= 1;\n        state.resting.places[usize::from(state.resting.count)] = 0;\n    }\n        return Err(Refusal::IdResting);\n", "ends"),
+    ("engine.rs", "a forgotten peer id is resting", "    if let Invocation::Own(id) = invocation {\n", "    if let Invocation::Own(id) | Invocation::Peer(id) = invocation {\n", "ends"),
+    ("engine.rs", "a forgotten id is not resting", "        state.resting.add(id);\n", "        let _ = id;\n", "ends"),
+    ("engine.rs", "an id that was not there to forget is resting", "    let at = side.find(id).ok_or(Refusal::NoSuchRecord)?;\n    let awaited",
+     "    let Some(at) = side.find(id) else {\n        state.resting.add(id);\n        return Err(Refusal::NoSuchRecord);\n    };\n    let awaited", "ends"),
+    ("engine.rs", "a result's id is resting", "    state.own.retire(at);\n    Ok(match value", "    state.own.retire(at);\n    state.resting.add(id);\n    Ok(match value", "ends"),
+    ("engine.rs", "an error's id is resting", "    state.own.retire(at);\n    Ok(Indication::Error", "    state.own.retire(at);\n    state.resting.add(id);\n    Ok(Indication::Error", "ends"),
+    ("engine.rs", "a rejected id is resting", "        state.own.retire(at);\n    }\n    Indication::UserReject", "        state.own.retire(at);\n        state.resting.add(id);\n    }\n    Indication::UserReject", "ends"),
+    ("engine.rs", "a late result takes a resting id out", "    let problems = [Problem::RESULT_UNRECOGNIZED", "    if let Some(at) = state.resting.ids().iter().position(|other| *other == id) {\n        state.resting.places.copy_within(at + 1.., at);\n        state.resting.count -= 1;\n        state.resting.places[usize::from(state.resting.count)] = 0;\n    }\n    let problems = [Problem::RESULT_UNRECOGNIZED", "ends"),
+    ("engine.rs", "a late error takes a resting id out", "    let problems = [Problem::ERROR_UNRECOGNIZED", "    if let Some(at) = state.resting.ids().iter().position(|other| *other == id) {\n        state.resting.places.copy_within(at + 1.., at);\n        state.resting.count -= 1;\n        state.resting.places[usize::from(state.resting.count)] = 0;\n    }\n    let problems = [Problem::ERROR_UNRECOGNIZED", "ends"),
+    ("engine.rs", "a late Reject takes a resting id out", "    if let (Problem::Invoke(_), Some(at))", "    if let Some(at) = state.resting.ids().iter().position(|other| *other == id) {\n        state.resting.places.copy_within(at + 1.., at);\n        state.resting.count -= 1;\n        state.resting.places[usize::from(state.resting.count)] = 0;\n    }\n    if let (Problem::Invoke(_), Some(at))"),
+    ("engine.rs", "a peer's invoke takes a resting id out", "    if state.peer.find(id).is_some() {\n", "    if let Some(at) = state.resting.ids().iter().position(|other| *other == id) {\n        state.resting.places.copy_within(at + 1.., at);\n        state.resting.count -= 1;\n        state.resting.places[usize::from(state.resting.count)] = 0;\n    }\n    if state.peer.find(id).is_some() {\n"),
+    ("drive.rs", "resting ids kept where a state frame has none", "                    self.state = state;\n", "                    let resting = self.state.resting.clone();\n                    self.state = state;\n                    if frame.payload.len() < frame::IMAGE_OCTETS {\n                        self.state.resting = resting;\n                    }\n"),
+    ("line.rs", "resting ids shown up to the count only", "resting.shown().iter()", "resting.ids().iter()"),
 ]
 
 # File, what the change is, the text, the text in its place; found by `replays`.
@@ -356,6 +408,10 @@ REPLAY_MUTANTS = [
     ("replay.rs", "an invoke with a name fits no call", "let code = code.ok_or(How::ForeignCode)?;\n                let asked", "let code = code.filter(|code| !matches!(code, crate::code::Code::Name(_))).ok_or(How::ForeignCode)?;\n                let asked"),
     ("replay.rs", "an error with a name fits no call", "let code = code.ok_or(How::ForeignCode)?;\n                (\"error\"", "let code = code.filter(|code| !matches!(code, crate::code::Code::Name(_))).ok_or(How::ForeignCode)?;\n                (\"error\""),
     ("replay.rs", "a sent name's long form goes by", "if self.output[..written] == *octets {", "if self.output[..written] == *octets || (octets.len() > written && matches!(apdu, Apdu::Invoke(Invoke { code: Some(crate::code::Code::Name(_)), .. }) | Apdu::Error { code: Some(crate::code::Code::Name(_)), .. })) {"),
+    ("engine.rs", "a resting id asked for again in a day", "    if state.resting.contains(id) {\n", "    if false {\n"),
+    ("engine.rs", "an answered id is resting in a day", "    state.own.retire(at);\n    Ok(match value", "    state.own.retire(at);\n    state.resting.add(id);\n    Ok(match value"),
+    ("resting.rs", "the oldest leaves when the 64th enters, in a day", "if usize::from(self.count) == State::RESTING {", "if usize::from(self.count) >= State::RESTING - 1 {"),
+    ("resting.rs", "the newest leaves in place of the oldest, in a day", "            self.places.copy_within(1.., 0);\n", ""),
 ]
 
 
@@ -439,6 +495,9 @@ def main():
     if built.returncode != 0:
         sys.exit("mutants: the second program does not build:\n" + built.stderr)
     unchanged = SECOND / "target" / "release" / "second"
+    plain = subprocess.run([unchanged, "ends", "1", ENDS_CALLS], capture_output=True, text=True)
+    if plain.returncode != 0:
+        sys.exit("mutants: ends fails for the unchanged program:\n" + plain.stdout)
     failed = 0
     with tempfile.TemporaryDirectory() as temporary:
         folder = pathlib.Path(temporary)

@@ -1,12 +1,12 @@
 //! What the six calls answer: indications, refusals and problems.
-//! Follows document 01, "Receiving" and the table of refusal numbers, with document 02, requests Four and Five.
+//! Follows document 01, "Receiving" and the table of refusal numbers, with document 02, requests Four to Six.
 
 use crate::code::Code;
 
 /// The calls and the refusals each can give, in order of check.
 pub const REFUSALS: [(&str, &[u8]); 6] = [
     ("receive", &[19, 1, 3, 2, 17, 18]),
-    ("invoke", &[19, 1, 4, 5, 6, 7, 8, 9, 21, 10, 14, 15, 2]),
+    ("invoke", &[19, 1, 4, 5, 22, 6, 7, 8, 9, 21, 10, 14, 15, 2]),
     ("result", &[19, 1, 11, 12, 9, 21, 10, 15, 2]),
     ("error", &[19, 1, 11, 12, 13, 9, 21, 10, 15, 2]),
     ("user reject", &[19, 1, 16, 11, 2]),
@@ -179,6 +179,7 @@ pub enum Refusal {
     OctetsBehindValue {
         place: usize,
     },
+    IdResting,
 }
 
 impl Refusal {
@@ -204,6 +205,7 @@ impl Refusal {
             Refusal::UnacceptableReject { place },
             Refusal::UnsoundState,
             Refusal::OctetsBehindValue { place },
+            Refusal::IdResting,
         ];
         every_other_than_18.into_iter().find(|refusal| refusal.number() == number)
     }
@@ -242,6 +244,7 @@ impl Refusal {
             Refusal::Rejected { .. } => 18,
             Refusal::UnsoundState => 19,
             Refusal::OctetsBehindValue { .. } => 21,
+            Refusal::IdResting => 22,
         }
     }
 }

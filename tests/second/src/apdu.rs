@@ -184,6 +184,13 @@ impl Outgoing<'_> {
         writer.written()
     }
 
+    /// The APDU's octets, for checks; the engine writes into a lent output.
+    pub fn to_vec(&self) -> Vec<u8> {
+        let mut octets = vec![0; self.octets()];
+        self.write(&mut octets);
+        octets
+    }
+
     fn identifier(&self) -> u8 {
         match self {
             Outgoing::Invoke { .. } => INVOKE,

@@ -27,7 +27,7 @@ struct Given {
 }
 
 /// What must occur often enough in a long run.
-pub const ROWS: [&str; 27] = [
+pub const ROWS: [&str; 30] = [
     "results",
     "absent results",
     "errors",
@@ -35,8 +35,11 @@ pub const ROWS: [&str; 27] = [
     "unlisted errors, O lacks the pair",
     "repeated answers",
     "late answers",
+    "late answers to a resting id",
     "retiring Rejects",
     "forgets",
+    "forgets with 64 ids resting",
+    "invokes refused with 22",
     "class 5 invokes",
     "linked invokes",
     "results given with an indefinite value",
@@ -89,8 +92,11 @@ impl Book {
     }
 
     pub fn count_if(&mut self, occurred: bool, row: &str) {
-        let at = ROWS.iter().position(|name| *name == row);
-        self.counts[at.expect("only named rows are counted")] += u64::from(occurred);
+        self.counts[place(row)] += u64::from(occurred);
+    }
+
+    pub fn has_counted(&self, row: &str) -> bool {
+        self.counts[place(row)] > 0
     }
 
     /// Checks the conclusions for a call and notes it; says what is wrong otherwise.
@@ -237,6 +243,10 @@ impl Book {
             _ => {}
         }
     }
+}
+
+fn place(row: &str) -> usize {
+    ROWS.iter().position(|name| *name == row).expect("only named rows are counted")
 }
 
 /// Why O does not list the error for the operation, if it does not.

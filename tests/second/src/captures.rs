@@ -6,7 +6,6 @@ use crate::days::{self, Logged, SENT};
 use crate::faults;
 use crate::generate::Generator;
 use crate::model::Model;
-use crate::name_faults;
 use crate::random::Random;
 use crate::slips::SLIPS;
 use crate::state::State;
@@ -26,7 +25,7 @@ pub fn sorts() -> usize {
 }
 
 /// Days as they were.
-pub const PLAIN: [&str; 10] = [
+pub const PLAIN: [&str; 12] = [
     "a day of few entries",
     "a day",
     "another day",
@@ -37,6 +36,8 @@ pub const PLAIN: [&str; 10] = [
     "a day with a received entry of 4,096 octets",
     "a day with a full table",
     "a day with 32 records of each side",
+    "a day with an id asked for again after its answer",
+    "a day with an id asked for again after 64 more forgets",
 ];
 
 /// Tables that are not valid.
@@ -79,17 +80,15 @@ fn attempt(seed: u64, sort: usize) -> Drawn {
 /// A fresh end with a small table, mostly, that has all classes.
 fn end<'w>(seed: u64) -> Generator<'w> {
     Generator::of_a_day(seed, |random| match random.percent(50) {
-        true if random.percent(50) => name_faults::rich(random),
-        true => faults::rich(random),
+        true => faults::rich_of_either(random, 50),
         false => Model::random(random),
     })
 }
 
 /// A table with an operation that takes long arguments.
 fn large(random: &mut Random) -> Model {
-    let named = random.percent(50);
-    let mut model = if named { name_faults::rich(random) } else { faults::rich(random) };
-    model.operations[if named { 5 } else { 1 }].argument = 0x30;
+    let mut model = faults::rich_of_either(random, 60);
+    model.operations[if model.names.is_some() { 5 } else { 1 }].argument = 0x30;
     model
 }
 
@@ -102,6 +101,7 @@ fn plain(seed: u64, sort: usize) -> Drawn {
         6 | 7 => Generator::of_a_day(seed, large),
         8 if seed % 16 > 0 => Generator::of_a_day(seed, Model::full_of_names),
         8 => Generator::of_a_day(seed, Model::full),
+        10 | 11 => Generator::of_a_day(seed, |random| faults::rich_of_either(random, 50)),
         _ => end(seed),
     };
     let few = end.random.between(1, 8);
@@ -117,6 +117,11 @@ fn plain(seed: u64, sort: usize) -> Drawn {
             end.live_on(few);
         }
         9 => end.fill_records(),
+        10 | 11 => {
+            end.live_on(few);
+            end.ask_twice(sort == 11);
+            end.live_on(few);
+        }
         _ => end.live_on(10 + 5 * few),
     }
     drawn(PLAIN[sort], Some(RIGHT), &mut end)

@@ -11,6 +11,9 @@ use crate::named;
 use crate::observe::{accepted_kinds, expects, record_limits, rejected_id_is_live, sort, value_limits};
 use crate::oddities::{ARRIVALS, VALUES};
 use crate::placed;
+use crate::rested;
+use crate::resting_calls::{ASKED_AGAIN, FORGOTTEN, STILL_RESTING};
+use crate::resting_states;
 use crate::rows::Rows;
 
 pub const SEEDS: u64 = 120;
@@ -156,6 +159,7 @@ impl Default for Coverage {
         forms::rows().into_iter().for_each(|row| coverage.row(row));
         placed::rows().into_iter().for_each(|row| coverage.row(row));
         named::rows().into_iter().for_each(|row| coverage.row(row));
+        rested::rows().into_iter().for_each(|row| coverage.row(row));
         coverage.row("limit: table of 5144 octets, accepted".to_string());
         for kind in ["an invoke", "an answer", "a reject", "a request", "a forget", "refusal 18", "another refusal"] {
             coverage.row(format!("follow-up: accepted after {kind}"));
@@ -202,6 +206,7 @@ impl Coverage {
         forms::rows_of(call, seen).into_iter().for_each(|row| self.count(row));
         placed::rows_of(call, seen).into_iter().for_each(|row| self.count(row));
         named::rows_of(call, seen).into_iter().for_each(|row| self.count(row));
+        rested::rows_of(call, seen).into_iter().for_each(|row| self.count(row));
         if let Some(label) = seen.label.filter(|label| expects(label.0, seen)) {
             self.count(label_row(label));
         }
@@ -258,6 +263,10 @@ fn groups() -> Vec<(Group, Vec<&'static str>)> {
     let mut groups = vec![
         (Group::InvalidTable, faults::table_names()),
         (Group::UnsoundState, faults::states().into_iter().map(|(name, _)| name).collect()),
+        (Group::SoundState, resting_states::SOUND.iter().map(|(name, _)| *name).collect()),
+        (Group::Forgotten, FORGOTTEN.to_vec()),
+        (Group::AskedAgain, ASKED_AGAIN.to_vec()),
+        (Group::StillResting, STILL_RESTING.to_vec()),
         (Group::Damaged, vec!["octets changed, dropped or added", "00 00 dropped, repeated, changed or added"]),
     ];
     let lists = ARRIVALS.iter().chain(VALUES);

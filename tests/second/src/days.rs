@@ -115,7 +115,7 @@ impl Generator<'_> {
         self.trouble = 0;
     }
 
-    fn arrive(&mut self, octets: &[u8]) {
+    pub(crate) fn arrive(&mut self, octets: &[u8]) {
         self.call(Frame { kind: frame::RECEIVE, lent: 11, payload: octets, ..Frame::default() });
     }
 
@@ -138,17 +138,23 @@ impl Generator<'_> {
         let invokes: Vec<(i32, Code)> = invokes.collect();
         let Some((id, code)) = self.random.pick(&invokes) else { return };
         let Some((_, row)) = self.model.operation(code) else { return };
-        let mut octets = vec![0; 2 * State::OCTETS];
-        let written = if self.random.percent(60) {
-            let value = self.value(row.result_rule());
-            Outgoing::Result { id, code: code.asked(), value: &value }.write(&mut octets)
-        } else {
-            let (code, rule) = self.error_code(code);
-            let value = self.value(rule);
-            Outgoing::Error { id, code: code.asked(), value: &value }.write(&mut octets)
-        };
-        octets.truncate(written);
-        self.arrive(&octets);
+        match self.random.percent(60) {
+            true => self.arrive_result(id, row),
+            false => self.arrive_error(id, row),
+        }
+    }
+
+    /// A result of an operation.
+    pub(crate) fn arrive_result(&mut self, id: i32, row: OperationRow) {
+        let value = self.value(row.result_rule());
+        self.arrive(&Outgoing::Result { id, code: row.code.asked(), value: &value }.to_vec());
+    }
+
+    /// An error of an operation.
+    pub(crate) fn arrive_error(&mut self, id: i32, row: OperationRow) {
+        let (code, rule) = self.error_code(row.code);
+        let value = self.value(rule);
+        self.arrive(&Outgoing::Error { id, code: code.asked(), value: &value }.to_vec());
     }
 
     /// Octets that no right end sends.
@@ -172,8 +178,7 @@ impl Generator<'_> {
     pub(crate) fn invoke_of(&mut self, octets: usize, received: bool) {
         let large = |row: &OperationRow| matches!(row.argument, 0x04 | 0x30 | 0xA0 | 0x80 | 0x24 | 0x31 | 0xC3);
         let Some(row) = self.random.pick_where(&self.model.operations, large) else { return };
-        let side = if received { &self.drive.state.peer } else { &self.drive.state.own };
-        let (id, code) = (free_id(&mut self.random, side), row.code.asked());
+        let (id, code) = (free_id(&mut self.random, &self.drive.state, !received), row.code.asked());
         let around = Outgoing::Invoke { id, linked: None, code, value: &[0; 4000] }.octets() - 4000;
         let is_indefinite = octets::is_constructed(row.argument) && self.random.percent(50);
         let mut value = values::sized(octets - around, is_indefinite);
@@ -182,10 +187,26 @@ impl Generator<'_> {
             let frame = Frame { kind: frame::INVOKE, lent: u16::MAX, id, ..Frame::default() };
             self.call(frame.asking(code, &value, &mut Vec::new()));
         } else {
-            let mut apdu = vec![0; octets];
-            Outgoing::Invoke { id, linked: None, code, value: &value }.write(&mut apdu);
-            self.arrive(&apdu);
+            self.arrive(&Outgoing::Invoke { id, linked: None, code, value: &value }.to_vec());
         }
+    }
+
+    /// Asks for an id again after its answer, or after a forget and 64 more, if the table allows it.
+    pub(crate) fn ask_twice(&mut self, forgotten: bool) {
+        self.trouble = 0;
+        let own: Vec<i32> = self.drive.state.own.live().iter().map(|record| record.id).collect();
+        own.into_iter().for_each(|id| self.forget_own(id));
+        let Some(row) = self.random.pick_where(&self.model.operations, |row| row.class == 2) else { return };
+        let id = self.free(true);
+        self.ask(id, row);
+        match forgotten {
+            true => {
+                self.forget_own(id);
+                self.forget_many(State::RESTING);
+            }
+            false => self.arrive_result(id, row),
+        }
+        self.ask(id, row);
     }
 
     /// Invokes and is invoked until each side has all its records, if the table allows it.
@@ -195,15 +216,12 @@ impl Generator<'_> {
         let Some(row) = self.random.pick_where(&self.model.operations, asynchronous) else { return };
         for number in 0..2 * State::RECORDS as i32 + 4 {
             let (id, code, value) = (number / 2, row.code.asked(), self.value(row.argument_rule()));
-            let apdu = Outgoing::Invoke { id, linked: None, code, value: &value };
-            let mut octets = vec![0; apdu.octets()];
-            apdu.write(&mut octets);
             match number % 2 {
                 0 => {
                     let frame = Frame { kind: frame::INVOKE, lent: 99, id, ..Frame::default() };
                     self.call(frame.asking(code, &value, &mut Vec::new()));
                 }
-                _ => self.arrive(&octets),
+                _ => self.arrive(&Outgoing::Invoke { id, linked: None, code, value: &value }.to_vec()),
             }
         }
         self.live_on(20);

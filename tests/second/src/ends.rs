@@ -2,10 +2,8 @@
 //! reorders; every call is noted in the book of demand 3 and checked. Both ends are played by this program's engine
 //! or by another program.
 
-use crate::answer::{Answer, Indication};
 use crate::book::{Book, End, ROWS};
-use crate::code::Code;
-use crate::codes;
+use crate::counted::{count_answer, count_resting};
 use crate::drive::Drive;
 use crate::flawed;
 use crate::flaws::BEHIND;
@@ -26,16 +24,20 @@ const LONG: u64 = 1_000_000;
 /// The editions of O and N, association by association.
 const EDITIONS: [[u8; 2]; 6] = [[2, 2], [1, 1], [2, 2], [2, 1], [2, 2], [1, 2]];
 
+/// In one of so many associations the kiosk forgets often.
+const FORGETFUL: usize = 5;
+
 /// Runs associations until so many calls are made: the counts, and whether all is as demand 3 says and often enough.
 /// A program, if one is named, plays both ends.
 pub fn run(program: Option<&str>, seed: u64, calls: u64) -> Result<(String, bool), String> {
     let mut random = Random::new(seed);
-    let (mut counts, mut made, mut accepted, mut associations) = ([0; ROWS.len()], 0, 0, 0);
+    let (mut counts, mut made, mut accepted, mut associations, mut full) = ([0; ROWS.len()], 0, 0, 0, 0);
     while made < calls {
         associations += 1;
         let most = random.between(100, 1200) as u64;
         let editions = EDITIONS[(associations - 1) % EDITIONS.len()];
-        let mut association = Association::new(&mut random, program, editions)?;
+        let forgetful = associations % FORGETFUL == 1;
+        let mut association = Association::new(&mut random, program, editions, forgetful)?;
         let stop = most.min(calls - made);
         for _ in 0..stop {
             if let Err(wrong) = association.step() {
@@ -44,10 +46,12 @@ pub fn run(program: Option<&str>, seed: u64, calls: u64) -> Result<(String, bool
         }
         made += stop;
         accepted += association.accepted;
+        full += usize::from(association.book.has_counted("forgets with 64 ids resting"));
         counts.iter_mut().zip(association.book.counts).for_each(|(sum, count)| *sum += count);
     }
     let (rows, enough) = report(&counts, LEAST * calls / LONG);
-    Ok((format!("{made} calls in {associations} associations, {accepted} accepted\n{rows}"), enough))
+    let said = format!("{made} calls in {associations} associations, {accepted} accepted");
+    Ok((format!("{said}; a 65th id came to rest in {full} of them\n{rows}"), enough))
 }
 
 /// How often each row occurred, and whether that is often enough.
@@ -69,18 +73,26 @@ struct Association<'r> {
     /// How far each end has read the other's APDUs in order.
     read: [usize; 2],
     accepted: u64,
+    /// Whether the kiosk forgets often.
+    forgetful: bool,
 }
 
 impl<'r> Association<'r> {
-    fn new(random: &'r mut Random, program: Option<&str>, editions: [u8; 2]) -> Result<Self, String> {
+    fn new(random: &'r mut Random, program: Option<&str>, editions: [u8; 2], forgetful: bool) -> Result<Self, String> {
         let (o, n) = tables(random, editions);
         let [kiosk, controller] = [&o, &n].map(|model| Played::new(player(program)?, &model.octets()));
         let (ends, models) = ([kiosk?, controller?], [o, n]);
-        Ok(Association { random, book: Book::default(), ends, models, read: [0; 2], accepted: 0 })
+        Ok(Association { random, book: Book::default(), ends, models, read: [0; 2], accepted: 0, forgetful })
     }
 
     /// One call at one end, checked and noted.
     fn step(&mut self) -> Result<(), String> {
+        if self.forgetful && self.random.percent(40) {
+            return match self.random.percent(50) {
+                true => self.invoke(End::Kiosk),
+                false => self.forget(End::Kiosk),
+            };
+        }
         match self.random.below(100) {
             0..=15 => self.invoke(End::Kiosk),
             16..=43 => self.receive(End::Kiosk),
@@ -96,10 +108,11 @@ impl<'r> Association<'r> {
     fn call(&mut self, end: End, frame: Frame<'_>) -> Result<(), String> {
         let octets = self.models[0].octets();
         let o = Table::new(&octets).ok_or("the kiosk's table is not valid")?;
-        let noted = self.ends[end as usize].call(&frame).and_then(|line| {
+        let noted = self.ends[end as usize].call(&frame).and_then(|(before, line)| {
             self.accepted += u64::from(line.answer.is_accepted());
-            if let (End::Kiosk, Some(operation)) = (end, answered(&line.answer)) {
-                count_answer(&mut self.book, &self.models, operation);
+            if end == End::Kiosk {
+                count_answer(&mut self.book, &self.models, &line.answer);
+                count_resting(&mut self.book, before, (&frame, &line.answer));
             }
             self.book.note(&o, end, (&frame, &line.answer, line.written))
         });
@@ -152,14 +165,18 @@ impl<'r> Association<'r> {
         self.call(end, frame.asking(row.code.asked(), &payload, &mut Vec::new()))
     }
 
-    /// An id for an invocation: the kiosk's is live, and so refused, or was never accepted.
+    /// An id for an invocation: the kiosk's is live or rests, and so is refused, or was never accepted.
     fn new_id(&mut self, end: End) -> i32 {
         if end == End::Controller {
             return self.random.number();
         }
-        let live = self.ends[end as usize].state().own.live().first().copied();
+        let state = self.ends[end as usize].state();
+        let live = state.own.live().first().copied();
         if let Some(record) = live.filter(|record| self.book.live().contains(&record.id) && self.random.percent(5)) {
             return record.id;
+        }
+        if let Some(id) = self.random.pick(state.resting.ids()).filter(|_| self.random.percent(8)) {
+            return id;
         }
         loop {
             let id = match self.random.percent(50) {
@@ -241,34 +258,6 @@ impl<'r> Association<'r> {
             1000
         }
     }
-}
-
-/// The operation of a result or error that is indicated.
-fn answered(answer: &Answer<'_>) -> Option<Code> {
-    match *answer {
-        Answer::Indicated(
-            Indication::Result { operation, .. }
-            | Indication::AbsentResult { operation, .. }
-            | Indication::Error { operation, .. },
-        ) => Some(operation),
-        _ => None,
-    }
-}
-
-/// Counts in what O and N differ about an operation whose answer reached the kiosk.
-fn count_answer(book: &mut Book, [o, n]: &[Model; 2], operation: Code) {
-    let row = |model: &Model| model.operation(operation).map(|(_, row)| row.flags & 8 != 0);
-    let place = |model: &Model| codes::place(&operation, model.names());
-    let is_name = matches!(operation, Code::Name(_));
-    book.count_if(is_name && place(o) != place(n), "answers of a name that N numbers otherwise");
-    let only_n = (row(o), row(n)) == (Some(false), Some(true));
-    book.count_if(only_n, "answers of an operation that only N marks idempotent");
-    book.count(match (o.names.is_some(), n.names.is_some()) {
-        (false, false) => "answers, both tables of edition 1",
-        (false, true) => "answers, O of edition 1 and N of edition 2",
-        (true, false) => "answers, O of edition 2 and N of edition 1",
-        (true, true) => "answers, both tables of edition 2",
-    });
 }
 
 /// A valid table O, and a valid table N that extends it, of these editions.

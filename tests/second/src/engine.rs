@@ -1,6 +1,6 @@
 //! The six calls: receive, the four requests and forget. A refused call leaves the state as given.
 //! Follows document 01, "Receiving, in order of check" and "Requests, in order of check", with document 02, requests
-//! Four and Five.
+//! Four to Six.
 
 use crate::answer::{Indication, Problem, Refusal};
 use crate::apdu::{self, Apdu, Invoke, Outgoing};
@@ -191,6 +191,9 @@ pub fn request_invoke(
     if state.own.find(id).is_some() {
         return Err(Refusal::IdInUse);
     }
+    if state.resting.contains(id) {
+        return Err(Refusal::IdResting);
+    }
     let class = |code| table.operation(code).map(|operation| operation.class);
     if state.own.live().iter().any(|record| class(&record.code) == Some(1)) {
         return Err(Refusal::SynchronousInvocationLive);
@@ -249,7 +252,7 @@ pub fn request_reject(table: &[u8], state: &mut State, (id, problem): (i32, u8),
     answer(state, at, Outgoing::Reject { id: Some(id), problem: Problem::Invoke(problem) }, 0, output)
 }
 
-/// Retires an own record, or a peer record whose class is neither 1 nor 2.
+/// Retires an own record, whose id then rests, or a peer record whose class is neither 1 nor 2.
 pub fn forget(table: &[u8], state: &mut State, invocation: Invocation) -> Result<(), Refusal> {
     let table = open(table, state)?;
     let (side, id) = match invocation {
@@ -262,6 +265,9 @@ pub fn forget(table: &[u8], state: &mut State, invocation: Invocation) -> Result
         return Err(Refusal::ClassForbids);
     }
     side.retire(at);
+    if let Invocation::Own(id) = invocation {
+        state.resting.add(id);
+    }
     Ok(())
 }
 

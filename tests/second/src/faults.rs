@@ -1,10 +1,12 @@
-//! Tables that break one rule each and states that are not sound, by name; those about names are in `name_faults`.
+//! Tables that break one rule each and states that are not sound, by name; those about names are in `name_faults`,
+//! those about resting ids in `resting_states`.
 //! Follows document 01, "Operation table" and "Records".
 
 use crate::code::Code;
 use crate::model::{ErrorRow, Model, OperationRow};
 use crate::name_faults;
 use crate::random::Random;
+use crate::resting_states;
 use crate::state::{Record, Side, State};
 use crate::table::Table;
 
@@ -26,6 +28,14 @@ pub fn rich(random: &mut Random) -> Model {
     model.error_pairs = vec![(0, 0), (0, 2), (1, 1), (2, 0), (5, 2)];
     model.child_pairs = vec![(0, 1), (1, 0), (1, 4), (3, 3)];
     model
+}
+
+/// Such a table of either edition, this many times in a hundred of edition 2.
+pub fn rich_of_either(random: &mut Random, named: usize) -> Model {
+    match random.percent(named) {
+        true => name_faults::rich(random),
+        false => rich(random),
+    }
 }
 
 pub(crate) type TableFault = fn(Model, &mut Random) -> Vec<u8>;
@@ -54,7 +64,7 @@ pub fn table_names() -> Vec<&'static str> {
 
 /// The ways to make a state unsound.
 pub fn states() -> Vec<(&'static str, StateFault)> {
-    STATES.iter().chain(name_faults::STATES).copied().collect()
+    STATES.iter().chain(name_faults::STATES).chain(resting_states::UNSOUND).copied().collect()
 }
 
 /// Each gives a table that is not valid.

@@ -1,6 +1,7 @@
-//! Frames of a script and the state images: the input of the drive protocol, with those of its stage 5.
+//! Frames of a script and the state images: the input of the drive protocol, with those of its stages 5 and 6.
 
 use crate::code::{Asked, Code, NAME_OCTETS};
+use crate::resting::Resting;
 use crate::state::{Record, Side, State};
 
 pub const TABLE: u8 = 0;
@@ -124,19 +125,21 @@ impl<'a> Frame<'a> {
 const LOCAL_PLACE: usize = 8;
 const PLACE: usize = 5 + NAME_OCTETS;
 
-/// How many octets the image of a state without names may have, and that of any state.
+/// How many octets the image of a state without names and resting ids may have, of one without resting ids, and of any.
 pub const LOCAL_IMAGE_OCTETS: usize = 2 * (2 + LOCAL_PLACE * State::RECORDS);
-pub const IMAGE_OCTETS: usize = 2 * (2 + PLACE * State::RECORDS);
+pub const NAMED_IMAGE_OCTETS: usize = 2 * (2 + PLACE * State::RECORDS);
+pub const IMAGE_OCTETS: usize = NAMED_IMAGE_OCTETS + 2 + 4 * State::RESTING;
 
 /// The state of an image, sound or not, unless its length is another.
 pub fn read_image(image: &[u8]) -> Option<State> {
     let (place, read): (usize, fn(&[u8]) -> Code) = match image.len() {
         LOCAL_IMAGE_OCTETS => (LOCAL_PLACE, |code| Code::Local(number(code))),
-        IMAGE_OCTETS => (PLACE, read_code),
+        NAMED_IMAGE_OCTETS | IMAGE_OCTETS => (PLACE, read_code),
         _ => return None,
     };
-    let (own, peer) = image.split_at(image.len() / 2);
-    Some(State { own: read_side(own, place, read), peer: read_side(peer, place, read) })
+    let side = 2 + place * State::RECORDS;
+    let [own, peer] = [&image[..side], &image[side..2 * side]].map(|octets| read_side(octets, place, read));
+    Some(State { own, peer, resting: read_resting(&image[2 * side..]) })
 }
 
 fn read_side(octets: &[u8], size: usize, code: fn(&[u8]) -> Code) -> Side {
@@ -148,6 +151,16 @@ fn read_side(octets: &[u8], size: usize, code: fn(&[u8]) -> Code) -> Side {
     side
 }
 
+/// No ids where there are no octets.
+fn read_resting(octets: &[u8]) -> Resting {
+    let mut resting = Resting::none();
+    if let [high, low, ids @ ..] = octets {
+        resting.count = u16::from_be_bytes([*high, *low]);
+        resting.places.iter_mut().zip(ids.chunks_exact(4)).for_each(|(place, id)| *place = number(id));
+    }
+    resting
+}
+
 /// A name with its length, or with length 0 a local code.
 fn read_code(octets: &[u8]) -> Code {
     match octets {
@@ -156,8 +169,21 @@ fn read_code(octets: &[u8]) -> Code {
     }
 }
 
-/// The image of a state that can hold names.
+/// The image of any state.
 pub fn image(state: &State) -> Vec<u8> {
+    let mut image = records_image(state);
+    image.extend(state.resting.count.to_be_bytes());
+    state.resting.places.iter().for_each(|id| image.extend(id.to_be_bytes()));
+    image
+}
+
+/// The image of a state without resting ids; none if a place has one.
+pub fn named_image(state: &State) -> Option<Vec<u8>> {
+    (state.resting == Resting::none()).then(|| records_image(state))
+}
+
+/// The records of an image that can hold names.
+fn records_image(state: &State) -> Vec<u8> {
     let mut image = Vec::with_capacity(IMAGE_OCTETS);
     for side in [&state.own, &state.peer] {
         image.extend(side.count.to_be_bytes());
@@ -172,8 +198,11 @@ pub fn image(state: &State) -> Vec<u8> {
     image
 }
 
-/// The image of a state without names in any place; none if there is one.
+/// The image of a state without names and resting ids in any place; none if there is one.
 pub fn local_image(state: &State) -> Option<Vec<u8>> {
+    if state.resting != Resting::none() {
+        return None;
+    }
     let mut image = Vec::with_capacity(LOCAL_IMAGE_OCTETS);
     for side in [&state.own, &state.peer] {
         image.extend(side.count.to_be_bytes());

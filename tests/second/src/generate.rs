@@ -1,6 +1,6 @@
 //! Scripts from a seed: episodes of calls that fit the state reached, with faults, limits and damage among them.
-//! The calls themselves are made in `requests`, `arrivals`, `lookups`, `named_calls`, `limits`, `oddities` and
-//! `flawed_calls`.
+//! The calls themselves are made in `requests`, `arrivals`, `lookups`, `named_calls`, `resting_calls`, `limits`,
+//! `oddities` and `flawed_calls`.
 
 use crate::answer::Answer;
 use crate::code::Code;
@@ -10,6 +10,7 @@ use crate::flawed::Flaw;
 use crate::frame::{self, Frame};
 use crate::model::Model;
 use crate::random::Random;
+use crate::resting_states;
 use crate::state::{Record, Side, State};
 
 /// A call as it was made, for coverage.
@@ -45,6 +46,10 @@ pub enum Group {
     UnacceptableReject,
     AcceptableReject,
     Damaged,
+    SoundState,
+    Forgotten,
+    AskedAgain,
+    StillResting,
 }
 
 type Watch<'w> = dyn FnMut(&Seen<'_>) + 'w;
@@ -116,17 +121,18 @@ impl<'w> Generator<'w> {
 
     fn run(mut self) -> Vec<u8> {
         while self.left > 0 {
-            match self.random.below(209) {
-                0..=11 => self.invalid_table(),
-                12..=17 => self.unsound_state(),
-                18..=21 => self.lacking_table(),
-                22..=65 => self.limit(),
-                66..=106 => self.named_arrival(),
-                107..=128 => self.named_value(),
-                129..=136 => self.lookups(),
-                137..=142 => self.named_calls(),
-                143..=151 => self.episode(),
-                152..=203 => self.flawed_call(),
+            match self.random.below(238) {
+                0..=13 => self.invalid_table(),
+                14..=19 => self.unsound_state(),
+                20..=23 => self.lacking_table(),
+                24..=65 => self.limit(),
+                66..=112 => self.named_arrival(),
+                113..=140 => self.named_value(),
+                141..=149 => self.lookups(),
+                150..=156 => self.named_calls(),
+                157..=170 => self.resting_calls(),
+                171..=178 => self.episode(),
+                179..=232 => self.flawed_call(),
                 _ => self.flawed_requests(),
             }
         }
@@ -169,8 +175,12 @@ impl<'w> Generator<'w> {
     }
 
     pub(crate) fn set_state(&mut self, state: &State) {
-        let local = frame::local_image(state).filter(|_| self.random.percent(50));
-        self.set(frame::STATE, &local.unwrap_or_else(|| frame::image(state)));
+        let shorter = match self.random.below(3) {
+            0 => frame::local_image(state),
+            1 => frame::named_image(state),
+            _ => None,
+        };
+        self.set(frame::STATE, &shorter.unwrap_or_else(|| frame::image(state)));
     }
 
     /// Whether to do the next thing wrong.
@@ -198,7 +208,7 @@ impl<'w> Generator<'w> {
             }
             1 => self.set_state(&State::fresh()),
             2 => {
-                let length = [0, 515, 517, 674, 1347, 1349][self.random.below(6)];
+                let length = [0, 258, 515, 517, 674, 1347, 1349, 1605, 1607][self.random.below(9)];
                 self.set(frame::STATE, &vec![0xFF; length]);
             }
             _ => {
@@ -238,6 +248,10 @@ impl<'w> Generator<'w> {
                 random.pick_where(&model.operations, |row| !own || blocking || row.class != 1).map(|row| row.code)
             });
         }
+        if self.random.percent(40) {
+            let count = [1, 2, 5, 62, 63, 64][self.random.below(6)];
+            resting_states::rest(&mut self.random, &mut state, count);
+        }
         state
     }
 
@@ -267,14 +281,14 @@ pub(crate) fn fill(
 ) {
     while usize::from(side.count) < count {
         let Some(code) = code(random) else { return };
-        let id = free_id(random, side);
+        let id = random.number_unless(|id| side.find(id).is_some());
         side.add(id, code);
     }
 }
 
-/// An id that no live record of the side has.
-pub(crate) fn free_id(random: &mut Random, side: &Side) -> i32 {
-    random.number_unless(|id| side.find(id).is_some())
+/// An id that no live record of the side has and that, on the own side, does not rest.
+pub(crate) fn free_id(random: &mut Random, state: &State, own: bool) -> i32 {
+    random.number_unless(|id| side(state, own).find(id).is_some() || own && state.resting.contains(id))
 }
 
 /// A live record of the side, if there is one.

@@ -1,4 +1,4 @@
-//! Remote operations of X.219, X.229 and X.880 as fixed in document 01 and, up to request Five, document 02: the engine
+//! Remote operations of X.219, X.229 and X.880 as fixed in document 01 and, up to request Six, document 02: the engine
 //! of one end of an association (`engine`), a script player (`drive`), a script generator (`generate`) and checks that
 //! run on them.
 
@@ -14,6 +14,7 @@ pub mod frame;
 pub mod line;
 pub mod octets;
 pub mod replay;
+pub mod resting;
 pub mod state;
 pub mod table;
 
@@ -26,6 +27,7 @@ pub mod cases;
 pub mod changed;
 pub mod codes;
 pub mod compare;
+mod counted;
 pub mod coverage;
 pub mod damaged;
 pub mod days;
@@ -59,6 +61,9 @@ pub mod random;
 pub mod reached;
 pub mod replays;
 mod requests;
+mod rested;
+mod resting_calls;
+mod resting_states;
 pub mod rows;
 pub mod samples;
 mod show;

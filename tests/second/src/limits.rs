@@ -3,7 +3,7 @@
 use crate::apdu::Outgoing;
 use crate::code::Code;
 use crate::frame::{self, Frame};
-use crate::generate::{fill, free_id, side, Generator};
+use crate::generate::{fill, free_id, Generator};
 use crate::model::{ErrorRow, Model, OperationRow};
 use crate::names::{self, Wanted};
 use crate::random::Random;
@@ -97,7 +97,7 @@ impl Generator<'_> {
     fn received_value_limit(&mut self) {
         let plain = self.set_plain(0x30);
         let place = self.place();
-        let id = if place == Place::Invoke { free_id(&mut self.random, &self.drive.state.peer) } else { plain.id };
+        let id = if place == Place::Invoke { free_id(&mut self.random, &self.drive.state, false) } else { plain.id };
         let (framing, code) = (self.framing(), Wanted::from(plain.code_in(place)).element(&mut self.random));
         let wrap = |value: &[u8]| wrapped(place, framing, id, &code, value);
         let apdu = if self.random.percent(50) {
@@ -118,7 +118,7 @@ impl Generator<'_> {
         let kind = if self.random.percent(8) { 0xC3 } else { type_of(value) };
         let plain = self.set_plain(kind);
         let place = self.place();
-        let id = if place == Place::Invoke { free_id(&mut self.random, &self.drive.state.peer) } else { plain.id };
+        let id = if place == Place::Invoke { free_id(&mut self.random, &self.drive.state, false) } else { plain.id };
         let (framing, code) = (self.framing(), Wanted::from(plain.code_in(place)).element(&mut self.random));
         let payload = wrapped(place, framing, id, &code, value);
         self.call(Frame { kind: frame::RECEIVE, lent: 11, payload: &payload, ..Frame::default() });
@@ -166,7 +166,7 @@ impl Generator<'_> {
 
     /// A request with the value made for so many octets around it.
     fn send(&mut self, place: Place, plain: Plain, value: impl FnOnce(&mut Random, usize) -> Vec<u8>) {
-        let id = if place == Place::Invoke { free_id(&mut self.random, &self.drive.state.own) } else { plain.id };
+        let id = if place == Place::Invoke { free_id(&mut self.random, &self.drive.state, true) } else { plain.id };
         let linked = (place == Place::Invoke && self.random.percent(30)).then_some(plain.id);
         let code = plain.code_in(place);
         let code = code.asked();
@@ -200,7 +200,7 @@ impl Generator<'_> {
         self.set_state(&state);
         for _ in 0..self.random.between(1, 3) {
             let code = if self.random.percent(30) { silent } else { code };
-            let id = free_id(&mut self.random, side(&self.drive.state, own));
+            let id = free_id(&mut self.random, &self.drive.state, own);
             let short = self.random.percent(10);
             if own {
                 let lent = if short { 3 } else { 40 };

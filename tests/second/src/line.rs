@@ -1,8 +1,9 @@
 //! The line of a call, written and read.
-//! Follows the drive protocol, "Line", with the field of its stage 4 and the names of its stage 5.
+//! Follows the drive protocol, "Line", with the fields of its stages 4 and 6 and the names of its stage 5.
 
 use crate::answer::{Answer, Indication, Problem, Refusal};
 use crate::code::Code;
+use crate::resting::Resting;
 use crate::state::{Record, Side, State};
 
 /// What a line shows of a call.
@@ -51,6 +52,8 @@ impl<'a> Line<'a> {
             put(line, " spoiled");
         }
         put(line, &format!(" place {}", self.place));
+        put(line, " rest ");
+        put_resting(line, &self.state.resting);
     }
 
     /// Takes a line apart; none unless it is exactly what the protocol writes.
@@ -58,12 +61,13 @@ impl<'a> Line<'a> {
         let (answer, rest) = line.split_once(" own ")?;
         let (own, rest) = rest.split_once(" peer ")?;
         let (peer, rest) = rest.split_once(" out ")?;
-        let (out, place) = rest.split_once(" place ")?;
+        let (out, rest) = rest.split_once(" place ")?;
+        let (place, resting) = rest.split_once(" rest ")?;
         let place = place.parse().ok()?;
         let spoiled = out.ends_with(" spoiled");
         let out = out.strip_suffix(" spoiled").unwrap_or(out);
         room.written = if out == "-" { Vec::new() } else { read_octets(out)? };
-        room.state = State { own: read_side(own)?, peer: read_side(peer)? };
+        room.state = State { own: read_side(own)?, peer: read_side(peer)?, resting: read_resting(resting)? };
         let answer = read_answer(answer, (room.written.len(), place), &mut room.value)?;
         let read = Line { answer, state: &room.state, written: &room.written, spoiled, place };
         let mut again = Vec::with_capacity(line.len());
@@ -192,6 +196,11 @@ fn put_side(line: &mut Vec<u8>, side: &Side) {
     }
 }
 
+fn put_resting(line: &mut Vec<u8>, resting: &Resting) {
+    put_hex(line, &resting.count.to_be_bytes());
+    resting.shown().iter().for_each(|id| put_number(line, Some(*id)));
+}
+
 fn put_hex(line: &mut Vec<u8>, octets: &[u8]) {
     const DIGITS: &[u8; 16] = b"0123456789abcdef";
     line.extend(octets.iter().flat_map(|octet| [octet >> 4, octet & 15].map(|digit| DIGITS[usize::from(digit)])));
@@ -292,4 +301,15 @@ fn read_side(text: &str) -> Option<Side> {
         *side.places.get_mut(at)? = Record { id: read_number(id)?, code: read_code(code)? };
     }
     Some(side)
+}
+
+/// The count, then the ids that are shown, at most all.
+fn read_resting(text: &str) -> Option<Resting> {
+    let mut resting = Resting::none();
+    let mut words = text.split(' ');
+    resting.count = u16::from_str_radix(words.next()?, 16).ok()?;
+    for (at, word) in words.enumerate() {
+        *resting.places.get_mut(at)? = read_number(word)?;
+    }
+    Some(resting)
 }

@@ -59,7 +59,7 @@ impl Generator<'_> {
         let code = codes::asked(&codes, self.model.names(), &mut self.random);
         let row = self.model.operation(code).map(|(_, row)| row).or(self.random.pick(&self.model.operations));
         let value = self.value(row.map_or(Rule { kind: 0, optional: false }, |row| row.argument_rule()));
-        let id = free_id(&mut self.random, side(&self.drive.state, own));
+        let id = free_id(&mut self.random, &self.drive.state, own);
         if own {
             let frame = Frame { kind: frame::INVOKE, lent: LENT, id, ..Frame::default() };
             self.call(frame.asking(code.asked(), &value, &mut Vec::new()));

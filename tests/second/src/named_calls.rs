@@ -87,7 +87,7 @@ impl Generator<'_> {
     fn ask_operation(&mut self, operations: &[Code], errors: &[Code]) {
         let code = self.sorted_code(operations, errors);
         let value = self.value(self.argument(&code));
-        let id = free_id(&mut self.random, &self.drive.state.own);
+        let id = free_id(&mut self.random, &self.drive.state, true);
         let frame = Frame { kind: frame::INVOKE, lent: LENT, id, ..Frame::default() };
         self.call(frame.asking(code.asked(), &value, &mut Vec::new()));
     }
@@ -102,7 +102,7 @@ impl Generator<'_> {
 
     fn hear_operation(&mut self, operations: &[Code], errors: &[Code]) {
         let code = self.heard_code(operations, errors);
-        let (id, value) = (free_id(&mut self.random, &self.drive.state.peer), self.value(self.argument(&code)));
+        let (id, value) = (free_id(&mut self.random, &self.drive.state, false), self.value(self.argument(&code)));
         let fields = [element(0x02, &integer_contents(id)), code.element(&mut self.random), value];
         self.hear(0xA1, &fields.concat());
     }

@@ -30,6 +30,9 @@ pub fn expects(group: Group, seen: &Seen<'_>) -> bool {
         Group::UnacceptableReject => number == 17,
         Group::AcceptableReject => number == 0,
         Group::Damaged => true,
+        Group::SoundState => !matches!(number, 1 | 19),
+        Group::Forgotten | Group::AskedAgain => number == 0,
+        Group::StillResting => number == 22,
     }
 }
 
@@ -108,7 +111,7 @@ fn class(seen: &Seen<'_>, code: Option<Code>) -> u8 {
 
 /// Limits of records and of tables that lack a record's code.
 pub fn record_limits(seen: &Seen<'_>) -> Vec<&'static str> {
-    let State { own, peer } = seen.before;
+    let State { own, peer, .. } = seen.before;
     let mut limits = Vec::new();
     match *seen.answer {
         Answer::Sent { .. } if seen.frame.kind == frame::INVOKE => {

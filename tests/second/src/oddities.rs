@@ -82,8 +82,8 @@ impl Generator<'_> {
         self.set_model(model);
         let mut state = self.random_state();
         let code = self.lacked_code();
-        let id = free_id(&mut self.random, &state.own);
-        let other = free_id(&mut self.random, &state.peer);
+        let id = free_id(&mut self.random, &state, true);
+        let other = free_id(&mut self.random, &state, false);
         match self.random.below(2) {
             0 if !state.own.is_full() => state.own.add(id, code),
             _ if !state.peer.is_full() => state.peer.add(other, code),

@@ -27,7 +27,7 @@ const SINGLE: [&str; 7] = [
 
 /// Refusals that come before a look at the value.
 const EARLIER: [(&str, &[u8]); 3] =
-    [("invoke", &[19, 1, 4, 5, 6, 7, 8]), ("result", &[19, 1, 11, 12]), ("error", &[19, 1, 11, 12, 13])];
+    [("invoke", &[19, 1, 4, 5, 22, 6, 7, 8]), ("result", &[19, 1, 11, 12]), ("error", &[19, 1, 11, 12, 13])];
 
 /// Every row that must occur.
 pub fn rows() -> Vec<String> {

@@ -46,8 +46,8 @@ impl Played {
         &self.before
     }
 
-    /// Makes a call: what its line shows, or what is wrong with the line.
-    pub fn call(&mut self, frame: &Frame<'_>) -> Result<Line<'_>, String> {
+    /// Makes a call: the state before it and what its line shows, or what is wrong with the line.
+    pub fn call(&mut self, frame: &Frame<'_>) -> Result<(&State, Line<'_>), String> {
         self.before.clone_from(self.room.state());
         self.text.clear();
         self.player.play(frame, &mut self.text)?;
@@ -56,7 +56,7 @@ impl Played {
         let line = line.ok_or_else(|| format!("no line of the drive protocol: {}", text.trim_end()))?;
         match broken_rule(frame, &self.before, &line) {
             Some(rule) => Err(format!("{rule}: {}", text.trim_end())),
-            None => Ok(line),
+            None => Ok((&self.before, line)),
         }
     }
 }
@@ -65,16 +65,27 @@ impl Played {
 fn broken_rule(frame: &Frame<'_>, before: &State, line: &Line<'_>) -> Option<&'static str> {
     let rules = [
         (answers(frame.kind, &line.answer), "the call has no such answer"),
+        (!refuses_table_or_state(&line.answer), "refused by a table that is valid or a state that is sound"),
         (shows(frame.payload, &line.answer), "the indication does not show the APDU's fields"),
         (wrote(frame.kind, line), "other octets were written than the answer says"),
         (line.written.len() <= usize::from(frame.lent), "more octets were written than lent"),
         (!line.spoiled, "an octet behind the written ones was changed"),
         (line.place == 0 || has_place(&line.answer), "the answer has no place"),
         (line.place == 0 || line.place < frame.value().len(), "the place is not in the given octets"),
+        (line.state.resting.ids() == rested(frame, before, &line.answer), "other ids rest than the call says"),
         (line.answer.is_accepted() || line.state == before, "a refused call changed the records"),
         (line.state.is_sound(), "the records are not sound"),
     ];
     rules.into_iter().find(|(kept, _)| !kept).map(|(_, rule)| rule)
+}
+
+/// The ids that rest after a call: the last 64 of those before and the own one it forgot.
+fn rested(frame: &Frame<'_>, before: &State, answer: &Answer<'_>) -> Vec<i32> {
+    let mut ids = before.resting.ids().to_vec();
+    if *answer == Answer::Forgotten && frame.detail == 0 {
+        ids.push(frame.id);
+    }
+    ids.split_off(ids.len().saturating_sub(State::RESTING))
 }
 
 /// Whether a call of this kind can have the answer.
@@ -85,6 +96,11 @@ fn answers(kind: u8, answer: &Answer<'_>) -> bool {
         Answer::Forgotten => kind == frame::FORGET,
         Answer::Refused(refusal) => REFUSALS[usize::from(kind - frame::RECEIVE)].1.contains(&refusal.number()),
     }
+}
+
+/// Whether the answer is 1 or 19, which an end with one valid table never gives from the fresh state on.
+fn refuses_table_or_state(answer: &Answer<'_>) -> bool {
+    matches!(answer, Answer::Refused(Refusal::InvalidTable | Refusal::UnsoundState))
 }
 
 /// Whether the answer is one that names the place of a fault: general 2, 9, 17 or 21.

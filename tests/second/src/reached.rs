@@ -3,7 +3,7 @@
 use std::collections::BTreeSet;
 
 use crate::answer::{Answer, Indication, Problem};
-use crate::apdu::{Apdu, Invoke};
+use crate::apdu::{self, Apdu, Invoke};
 use crate::capture::{self, Entry, Kind};
 use crate::captures::{self, Drawn};
 use crate::changed::CHANGES;
@@ -21,7 +21,7 @@ pub const CAPTURES: u64 = 10_000;
 pub const LEAST: u64 = 50;
 
 /// What a capture that agrees can have.
-const AGREES: [&str; 45] = [
+const AGREES: [&str; 49] = [
     "no entries",
     "one entry",
     "1,000 entries",
@@ -49,6 +49,10 @@ const AGREES: [&str; 45] = [
     "an own record forgotten",
     "a peer record forgotten",
     "an own id used again",
+    "an own id used again after its answer",
+    "an own id used again after 64 more were forgotten",
+    "an own record forgotten while 64 ids rest",
+    "a late answer to a resting id with its Reject",
     "an invoke of indefinite length received",
     "a result of indefinite length received",
     "an error of indefinite length received",
@@ -101,14 +105,12 @@ impl Reached {
     /// Counts what a capture reaches; gives its line.
     pub fn note(&mut self, drawn: &Drawn) -> String {
         let mut things = BTreeSet::new();
-        let (mut ids, mut rejected) = (BTreeSet::new(), false);
+        let (mut ids, mut rejected) = (Ids::default(), false);
         let verdict = replay::watch(&drawn.table, &drawn.capture, |entry, step| {
             things.extend(
                 thing(&step).into_iter().chain(limit(entry)).chain(forms(entry, &step)).chain(names(entry, &step)),
             );
-            if let Step::Sent(Apdu::Invoke(Invoke { id, .. })) = step {
-                things.extend((!ids.insert(id)).then_some("an own id used again"));
-            }
+            things.extend(ids.note(entry, &step));
             things.extend(rejected.then_some("an entry behind a refused APDU's Reject"));
             rejected |= matches!(step, Step::RejectFound);
         });
@@ -139,6 +141,52 @@ impl Reached {
         let said = if enough { "enough" } else { "NOT ENOUGH" };
         let counted = format!("{} captures, {} rows, each needs {needed}", self.captures, self.rows.len());
         (format!("{}{counted}: {said}\n", self.rows.text(needed)), enough)
+    }
+}
+
+/// The own ids of a day so far.
+#[derive(Default)]
+struct Ids {
+    used: BTreeSet<i32>,
+    answered: BTreeSet<i32>,
+    forgotten: Vec<i32>,
+}
+
+impl Ids {
+    /// What an entry shows of an own id's use.
+    fn note(&mut self, entry: Entry<'_>, step: &Step<'_>) -> Vec<&'static str> {
+        let mut things = Vec::new();
+        match *step {
+            Step::Sent(Apdu::Invoke(Invoke { id, .. })) if !self.used.insert(id) => {
+                things.push("an own id used again");
+                things.extend(self.answered.contains(&id).then_some("an own id used again after its answer"));
+                let left = self.forgotten.contains(&id);
+                things.extend(left.then_some("an own id used again after 64 more were forgotten"));
+            }
+            Step::Indicated(
+                Indication::Result { id, .. } | Indication::AbsentResult { id, .. } | Indication::Error { id, .. },
+            ) => drop(self.answered.insert(id)),
+            Step::Forgotten(Invocation::Own(id)) => {
+                let full = self.forgotten.len() >= State::RESTING;
+                things.extend(full.then_some("an own record forgotten while 64 ids rest"));
+                self.forgotten.push(id);
+            }
+            Step::Rejected(_) => {
+                things.extend(self.is_late(entry).then_some("a late answer to a resting id with its Reject"))
+            }
+            _ => {}
+        }
+        things
+    }
+
+    /// Whether an entry is an answer to an id that rests.
+    fn is_late(&self, entry: Entry<'_>) -> bool {
+        match apdu::read(entry.octets) {
+            Ok(Apdu::Result { id, .. } | Apdu::Error { id, .. }) => {
+                self.forgotten.iter().rev().take(State::RESTING).any(|other| *other == id)
+            }
+            _ => false,
+        }
     }
 }
 

@@ -40,15 +40,22 @@ impl Generator<'_> {
     }
 
     fn invoke(&mut self) {
+        let resting = self.resting_id().filter(|_| self.fault() && self.random.percent(50));
+        let id = resting.unwrap_or_else(|| self.id(true, false));
+        self.invoke_with(id);
+    }
+
+    /// An invoke with this id, right or wrong otherwise.
+    pub(crate) fn invoke_with(&mut self, id: i32) {
         let mut row = self.random.pick(&self.model.operations);
         let mut linked = None;
         if self.random.percent(35) {
             let parent = self.parent(false).filter(|_| !self.fault());
-            linked = Some(parent.map_or_else(|| free_id(&mut self.random, &self.drive.state.peer), |record| record.id));
+            linked =
+                Some(parent.map_or_else(|| free_id(&mut self.random, &self.drive.state, false), |record| record.id));
             row = parent.and_then(|parent| self.child(parent)).filter(|_| !self.fault()).or(row);
         }
         let code = row.filter(|_| !self.fault()).map_or_else(|| self.unknown_code(), |row| row.code.into());
-        let id = self.id(true, false);
         let value = self.value(row.map_or(Rule { kind: 0, optional: false }, |row| row.argument_rule()));
         let lent = self.lent(Outgoing::Invoke { id, linked, code: code.asked(), value: &value }.octets());
         let detail = if linked.is_some() { frame::LINKED } else { [0, 0, 0, 0, 4, 0xFC][self.random.below(6)] };
@@ -120,7 +127,7 @@ impl Generator<'_> {
         }
         match live(&mut self.random, other) {
             Some(record) if this.find(record.id).is_none() && self.random.percent(30) => record.id,
-            _ => free_id(&mut self.random, this),
+            _ => free_id(&mut self.random, &self.drive.state, own),
         }
     }
 

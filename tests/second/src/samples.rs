@@ -23,6 +23,12 @@ const DAYS: &[(&str, &str, &str)] = &[
     ("reject-like-a-user-reject", "received A106020105020102, sent A406020105810102", "entries 2 agree"),
     ("request-refused", "received A400, sent A106020105020163", "entry 1 differs"),
     ("id-in-use", "sent A106020105020104, sent A106020105020103", "entry 1 differs"),
+    (
+        "resting-id-asked-again",
+        "sent A106020105020104, received A20A02010530050201040400, sent A106020105020104, forget 0000000005,
+         received A20A02010530050201040400, sent A406020105820100, sent A106020105020104",
+        "entry 6 differs",
+    ),
     ("linked-to-an-own-invocation", "sent A109020105020102020107, sent A109020106800105020103", "entry 1 differs"),
     ("result-of-no-invocation", "sent A20B0201053006020102020107", "entry 0 differs"),
     ("error-not-paired", "received A106020105020103, sent A306020105020102", "entry 1 differs"),
@@ -136,7 +142,7 @@ const MALFORMED: &[(&str, &str)] = &[
 /// A capture by name, made when it is asked for, and its line.
 type Long = (&'static str, fn() -> Vec<u8>, &'static str);
 
-/// Samples that cannot be small: captures at both sides of a limit.
+/// Samples that cannot be small: captures at a limit.
 const LONG: &[Long] = &[
     ("length-4096", || passed_over(1, State::OCTETS), "entries 1 agree"),
     ("length-4097", || passed_over(1, State::OCTETS + 1), "refused 20"),
@@ -144,6 +150,7 @@ const LONG: &[Long] = &[
     ("count-1001", || passed_over(ENTRIES + 1, 1), "refused 20"),
     ("octets-60000", || filled(OCTETS), "entries 15 agree"),
     ("octets-60001", || filled(OCTETS + 1), "refused 20"),
+    ("id-asked-again-after-64-more-forgets", asked_again, "entries 131 agree"),
 ];
 
 /// Tables that are not valid, with their captures.
@@ -206,6 +213,15 @@ fn passed_over(count: usize, length: usize) -> Vec<u8> {
     let mut octets = vec![0; length];
     octets[0] = 0xA4;
     days::capture(&vec![Logged::new(RECEIVED, &octets); count])
+}
+
+/// An id asked for and forgotten, then 64 others, then the first again.
+fn asked_again() -> Vec<u8> {
+    let invoke = |id: u8| Logged::new(SENT, &[0xA1, 0x06, 0x02, 0x01, id, 0x02, 0x01, 0x04]);
+    let others = 0..=State::RESTING as u8;
+    let mut entries: Vec<Logged> = others.flat_map(|id| [invoke(id), Logged::forget(0, i32::from(id))]).collect();
+    entries.push(invoke(0));
+    days::capture(&entries)
 }
 
 fn filled(count: usize) -> Vec<u8> {

@@ -5,6 +5,7 @@ use crate::fault;
 use crate::frame::{self, Frame};
 use crate::octets::{self, Header, Length, CLOSING};
 use crate::replay::End;
+use crate::resting::Resting;
 use crate::state::{Side, State};
 use crate::table::{Rule, Table};
 
@@ -48,7 +49,8 @@ fn rule(rule: Rule) -> String {
 
 pub fn state(state: &State) -> String {
     let sound = if state.is_sound() { "sound" } else { "not sound" };
-    format!("state, {sound}\n{}{}", side("own", &state.own), side("peer", &state.peer))
+    let sides = side("own", &state.own) + &side("peer", &state.peer);
+    format!("state, {sound}\n{sides}{}", resting(&state.resting))
 }
 
 fn side(name: &str, side: &Side) -> String {
@@ -56,6 +58,15 @@ fn side(name: &str, side: &Side) -> String {
     for (at, record) in side.shown().iter().enumerate() {
         let unused = if at < usize::from(side.count) { "" } else { " (behind the count)" };
         text += &format!(", {} is operation {}{unused}", record.id, record.code);
+    }
+    text + "\n"
+}
+
+fn resting(resting: &Resting) -> String {
+    let mut text = format!("  resting count {}", resting.count);
+    for (at, id) in resting.shown().iter().enumerate() {
+        let unused = if at < usize::from(resting.count) { "" } else { " (behind the count)" };
+        text += &format!(", {id}{unused}");
     }
     text + "\n"
 }

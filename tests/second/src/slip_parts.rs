@@ -4,7 +4,7 @@ use crate::answer::Problem;
 use crate::apdu::{self, Outgoing};
 use crate::cases::Named;
 use crate::days::{Logged, SENT};
-use crate::generate::{free_id, live, side, Generator};
+use crate::generate::{free_id, live, Generator};
 use crate::model::OperationRow;
 use crate::octets;
 use crate::state::{Record, State};
@@ -12,9 +12,9 @@ use crate::table::Rule;
 use crate::values::{self, element, element_in_form, indefinite, integer_contents};
 
 impl Generator<'_> {
-    /// An id that is not live on a side.
+    /// An id that an invocation of a side may have.
     pub(crate) fn free(&mut self, own: bool) -> i32 {
-        free_id(&mut self.random, side(&self.drive.state, own))
+        free_id(&mut self.random, &self.drive.state, own)
     }
 
     /// A live peer id, or any.
@@ -49,9 +49,7 @@ impl Generator<'_> {
     }
 
     pub(crate) fn put(&mut self, apdu: Outgoing<'_>) -> Option<bool> {
-        let mut octets = vec![0; apdu.octets()];
-        apdu.write(&mut octets);
-        self.put_entry(Logged::new(SENT, &octets))
+        self.put_entry(Logged::new(SENT, &apdu.to_vec()))
     }
 
     /// An invoke of any operation with a right value.

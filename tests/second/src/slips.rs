@@ -6,7 +6,6 @@ use crate::apdu::{self, Outgoing};
 use crate::cases;
 use crate::code::{Asked, Code};
 use crate::days::{Logged, RECEIVED};
-use crate::frame::{self, Frame};
 use crate::generate::{live, Generator};
 use crate::indefinite as named;
 use crate::model::OperationRow;
@@ -26,6 +25,24 @@ pub(crate) const SLIPS: &[(&str, &str, Slip)] = &[
     }),
     ("an invoke with a live id", "invoke refused 5", |end| {
         let Record { id, .. } = live(&mut end.random, &end.drive.state.own)?;
+        end.put_invoke(id, None)
+    }),
+    ("an invoke with a resting id", "invoke refused 22", |end| {
+        let id = end.resting_id()?;
+        end.put_invoke(id, None)
+    }),
+    ("an invoke with a resting id beside a synchronous one", "invoke refused 22", |end| {
+        let id = end.resting_id()?;
+        end.is_blocked().then(|| end.put_invoke(id, None))?
+    }),
+    ("an invoke with a resting id after a late answer", "invoke refused 22", |end| {
+        let (id, row) = (end.resting_id()?, end.random.pick(&end.model.operations)?);
+        end.arrive_result(id, row);
+        end.put_invoke(id, None)
+    }),
+    ("an invoke with the oldest of 64 resting ids", "invoke refused 22", |end| {
+        end.forget_many(State::RESTING)?;
+        let id = end.drive.state.resting.places[0];
         end.put_invoke(id, None)
     }),
     ("an invoke beside a synchronous one", "invoke refused 6", |end| {
@@ -48,9 +65,8 @@ pub(crate) const SLIPS: &[(&str, &str, Slip)] = &[
     ("an invoke beside 32 own records", "invoke refused 14", |end| {
         let row = end.random.pick_where(&end.model.operations, |row| matches!(row.class, 2..=4))?;
         for _ in 0..3 * State::RECORDS {
-            let (id, value) = (end.free(true), end.value(row.argument_rule()));
-            let invoke = Frame { kind: frame::INVOKE, lent: u16::MAX, id, ..Frame::default() };
-            end.call(invoke.asking(row.code.asked(), &value, &mut Vec::new()));
+            let id = end.free(true);
+            end.ask(id, row);
         }
         let (id, value) = (end.free(true), end.value(row.argument_rule()));
         let full = end.drive.state.own.is_full();

@@ -1,7 +1,8 @@
-//! The records of open invocations on both sides and when they are sound.
-//! Follows document 01, "Records" and the limits of "What is built", with document 02, request Five.
+//! The records of open invocations on both sides, the resting ids, and when they are sound.
+//! Follows document 01, "Records" and the limits of "What is built", with document 02, requests Five and Six.
 
 use crate::code::Code;
+use crate::resting::Resting;
 
 /// An open invocation.
 #[derive(Clone, Copy, Debug, Default, PartialEq, Eq)]
@@ -33,20 +34,28 @@ pub struct Side {
 pub struct State {
     pub own: Side,
     pub peer: Side,
+    pub resting: Resting,
 }
 
 impl State {
     pub const OCTETS: usize = 4096;
     pub const LEVELS: usize = 16;
     pub const RECORDS: usize = 32;
+    pub const RESTING: usize = 64;
 
     pub fn fresh() -> State {
-        State { own: Side::empty(), peer: Side::empty() }
+        State { own: Side::empty(), peer: Side::empty(), resting: Resting::none() }
     }
 
     pub fn is_sound(&self) -> bool {
-        self.own.is_sound() && self.peer.is_sound()
+        self.own.is_sound() && self.peer.is_sound() && self.resting.is_sound(&self.own)
     }
+}
+
+/// So many places, and every place up to the last that is not unused.
+pub(crate) fn shown<T: Default + PartialEq>(places: &[T], count: usize) -> &[T] {
+    let used = places.iter().rposition(|place| *place != T::default()).map_or(0, |last| last + 1);
+    &places[..used.max(count)]
 }
 
 impl Side {
@@ -62,8 +71,7 @@ impl Side {
 
     /// Each place below the count, and every place up to the last that is not 0, 0.
     pub fn shown(&self) -> &[Record] {
-        let used = self.places.iter().rposition(|&place| place != Record::default()).map_or(0, |last| last + 1);
-        &self.places[..used.max(self.live().len())]
+        shown(&self.places, self.live().len())
     }
 
     pub fn is_full(&self) -> bool {

@@ -8,9 +8,10 @@ use crate::replay::{self, How, Verdict};
 use crate::state::State;
 
 /// Ways in which an entry differs.
-pub const DIFFERS: [&str; 37] = [
+pub const DIFFERS: [&str; 38] = [
     "invoke refused 4",
     "invoke refused 5",
+    "invoke refused 22",
     "invoke refused 6",
     "invoke refused 7",
     "invoke refused 8",

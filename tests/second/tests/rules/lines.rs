@@ -37,7 +37,7 @@ fn other_lines_are_none() {
         "refused 0 own 0000 peer 0000 out - place 0",
         "refused 18 own 0000 peer 0000 out - place 0",
         "refused 20 own 0000 peer 0000 out - place 0",
-        "refused 22 own 0000 peer 0000 out - place 0",
+        "refused 23 own 0000 peer 0000 out - place 0",
         "refused 2 80 02 own 0000 peer 0000 out - place 0",
         "refused 18 80 03 own 0000 peer 0000 out a4050500800103 place 0",
         "invoke 00000005 none 00000007 own 0000 peer 0000 out - place 0",
@@ -52,7 +52,8 @@ fn other_lines_are_none() {
         &format!("forgotten own 0021{places} peer 0000 out - place 0"),
     ];
     for line in others {
-        assert!(Line::read(line, &mut Room::default()).is_none(), "{line}");
+        let line = format!("{line} rest 0000");
+        assert!(Line::read(&line, &mut Room::default()).is_none(), "{line}");
     }
 }
 
@@ -62,14 +63,36 @@ fn lines_with_another_end_are_none() {
         ["", " place", " place ", " place none", " place 00", " place +1", " place -1", " place 0a", " place 5 "];
     let more = [" place 0 place 0", " place 0 spoiled", " place 0 value none", " value none place 0"];
     for end in ends.into_iter().chain(more) {
-        let line = format!("sent own 0000 peer 0000 out -{end}");
+        let line = format!("sent own 0000 peer 0000 out -{end} rest 0000");
         assert!(Line::read(&line, &mut Room::default()).is_none(), "{line}");
     }
     for (answer, place) in [("sent", 0), ("refused 9", 5), ("refused 21", 5000), ("refused 10", 7)] {
-        let (line, mut room) = (format!("{answer} own 0000 peer 0000 out - place {place}"), Room::default());
+        let (line, mut room) = (format!("{answer} own 0000 peer 0000 out - place {place} rest 0000"), Room::default());
         let read = Line::read(&line, &mut room).unwrap();
         let shown = if answer == "refused 10" { 0 } else { place };
         assert_eq!((read.place, read.answer.place()), (place, shown), "{line}");
+    }
+}
+
+#[test]
+fn lines_with_other_resting_ids_are_none() {
+    let ids = |count: usize| " 00000007".repeat(count);
+    let (most, over) = (format!(" rest 0040{}", ids(64)), format!(" rest 0041{}", ids(65)));
+    for rest in
+        ["", " rest", " rest ", " rest 0", " rest 0001", " rest 0000 00000000", " rest 0001 7", " rest none", &over]
+    {
+        let line = format!("sent own 0000 peer 0000 out - place 0{rest}");
+        assert!(Line::read(&line, &mut Room::default()).is_none(), "{line}");
+    }
+    let more =
+        [" rest 0000 place 0", " rest 0000 spoiled", " rest 0000 value none", " rest 0000 rest 0000", " rest 0000 "];
+    for end in more {
+        let line = format!("sent own 0000 peer 0000 out - place 0{end}");
+        assert!(Line::read(&line, &mut Room::default()).is_none(), "{line}");
+    }
+    for rest in [" rest 0000", " rest 0001 00000000", " rest 0000 00000007", " rest 0002 ffffffff 00000000", &most] {
+        let (line, mut room) = (format!("sent own 0000 peer 0000 out - place 0{rest}"), Room::default());
+        assert!(Line::read(&line, &mut room).is_some(), "{line}");
     }
 }
 
@@ -111,12 +134,14 @@ fn rules_of_every_call() {
     let receive = |payload, lent| Frame { kind: frame::RECEIVE, lent, payload, ..Frame::default() };
     let (result, refused, short) = (receive(&p2, 11), receive(&p4, 11), receive(&p4, 7));
     let forget = Frame { kind: frame::FORGET, id: 6, ..Frame::default() };
-    for second in [result, refused, short, forget] {
+    let forgets = Frame { id: 5, ..forget };
+    for second in [result, refused, short, forget, forgets] {
         assert_eq!(after_invoke("", "", second), Ok(()));
     }
     let fields = "the indication does not show";
     let octets = "other octets were written";
     let records = "a refused call changed the records";
+    let ids = "other ids rest than the call says";
     for (old, new, second, rule) in [
         ("sent own", "forgotten own", refused, "the call has no such answer"),
         ("refused 18 82 02", "sent", refused, "the call has no such answer"),
@@ -137,6 +162,11 @@ fn rules_of_every_call() {
         ("0000 out a406", "0001 00000005:00000007 out a406", refused, records),
         ("refused 11 own 0001 00000005:00000007", "refused 11 own 0000", forget, records),
         ("sent own 0001 00000005:00000007", "sent own 0000 00000005:00000007", refused, "the records are not sound"),
+        ("20103 place 0 rest 0000", "20103 place 0 rest 0001 00000006", refused, ids),
+        ("820102 place 0 rest 0000", "820102 place 0 rest 0001 00000005", refused, ids),
+        ("place 0 rest 0001 00000005", "place 0 rest 0000", forgets, ids),
+        ("place 0 rest 0001 00000005", "place 0 rest 0001 00000006", forgets, ids),
+        ("20103 place 0 rest 0000", "20103 place 0 rest 0000 00000006", refused, "the records are not sound"),
         ("sent own", "sent own own", refused, "no line of the drive protocol"),
         ("\n", "", refused, "no line of the drive protocol"),
     ] {

@@ -12,5 +12,6 @@ mod names;
 mod places;
 mod readings;
 mod replays;
+mod resting;
 mod rules;
 mod tables;

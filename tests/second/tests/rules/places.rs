@@ -29,7 +29,7 @@ fn line(call: &str) -> String {
 fn check_line(call: &str, answer: &str, place: usize) {
     let line = line(call);
     assert!(line.starts_with(&format!("{answer} own ")), "{call}\n  wanted {answer}\n  was    {line}");
-    assert!(line.ends_with(&format!(" place {place}")), "{call}\n  wanted place {place}\n  was    {line}");
+    assert!(line.contains(&format!(" place {place} rest ")), "{call}\n  wanted place {place}\n  was    {line}");
 }
 
 /// Checks octets as received ones and as a value: general 2 or 17, and 9, with the same place.
@@ -200,10 +200,11 @@ fn no_place_without_a_fault_of_the_octets() {
     }
     let long = format!("receive {}", text(&[0xA1; 4097]));
     check_line(&long, "refused 3", 0);
-    assert!(play(&[], &State::fresh(), "receive A1 02 10 00").ends_with("refused 1 own 0000 peer 0000 out - place 0"));
+    assert!(play(&[], &State::fresh(), "receive A1 02 10 00")
+        .ends_with("refused 1 own 0000 peer 0000 out - place 0 rest 0000"));
     let unsound = state(&[(5, 7), (5, 7)], &[]);
     assert!(play(&table(), &unsound, "invoke 9 7 30 80").starts_with("refused 19 own 0002 "));
-    assert!(play(&table(), &unsound, "invoke 9 7 30 80").ends_with(" place 0"));
+    assert!(play(&table(), &unsound, "invoke 9 7 30 80").ends_with(" place 0 rest 0000"));
 }
 
 #[test]
