@@ -22,7 +22,7 @@ TOP = HERE.parent.parent
 DRIVE = str(TOP / "target/bin/drive")
 REPLAY = str(TOP / "target/bin/replay")
 SECOND = str(TOP / "tests/second/target/release/second")
-TABLE, STATE, RECEIVE, INVOKE, RESULT, ERROR = range(6)
+TABLE, STATE, RECEIVE, INVOKE, RESULT, ERROR, REJECT, FORGET = range(8)
 
 
 def frame(kind, payload=b"", lent=0, number=0, code=0, detail=0):
@@ -56,6 +56,12 @@ def named_state(own=(), peer=()):
     """The same with names for codes, 1,348 octets."""
     return b"".join(struct.pack(">H", len(side)) + b"".join(struct.pack(">iB16s", number, len(name), name) for number, name in side)
                     + bytes(21 * (32 - len(side))) for side in (own, peer))
+
+
+def resting_state(ids, own=()):
+    """Local own records and resting ids, 1,606 octets."""
+    records = b"".join(struct.pack(">iBi12x", number, 0, code) for number, code in own) + bytes(21 * (32 - len(own)))
+    return struct.pack(">H", len(own)) + records + bytes(2 + 21 * 32) + struct.pack(">H64i", len(ids), *ids, *[0] * (64 - len(ids)))
 
 
 def element(identifier, contents):
@@ -116,6 +122,10 @@ def cases():
         for octets in (64, 512, 4096):
             yield case(f"receive {octets} octets, argument nested {deep}", WIDE, state(), frame(RECEIVE, nested(octets, deep), 11))
         yield case(f"receive 4096 octets, nested {deep}, indefinite lengths", WIDE, state(), frame(RECEIVE, nested(4096, deep, closed), 11))
+    rested = resting_state(range(100, 164), own=[(5, 7)])
+    yield case("64 resting ids: invoke", T, rested, frame(INVOKE, b"\x02\x01\x03", 64, 6, 7))
+    yield case("64 resting ids: receive a result", T, rested, frame(RECEIVE, P2, 11))
+    yield case("64 resting ids: forget", T, rested, frame(FORGET, number=5))
     records = [(i, i - 32) for i in range(32)]
     answer = bytes.fromhex("A20B02011F30060201FF02010C")
     yield case("32 + 32 records, full table: receive a result", FULL, state(own=records, peer=records), frame(RECEIVE, answer, 11))

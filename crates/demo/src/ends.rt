@@ -47,12 +47,12 @@ struct Apdu {
     span: Span,
 }
 
-// The state of each end, the last APDU that the channel took towards it, and the kiosk's record.
+// The last APDU that the channel took towards each end, the state of each, and the kiosk's record.
 pub(crate) struct Site {
-    kiosk: State,
-    controller: State,
     to_kiosk: Apdu,
     to_controller: Apdu,
+    kiosk: State,
+    controller: State,
     pub(crate) day: Day,
 }
 
@@ -62,10 +62,10 @@ pub(crate) fn opened() -> Site {
         span: Span { at: 0, end: 0 },
     };
     Site {
-        kiosk: State::fresh(),
-        controller: State::fresh(),
         to_kiosk: none,
         to_controller: none,
+        kiosk: State::fresh(),
+        controller: State::fresh(),
         day: FRESH,
     }
 }
