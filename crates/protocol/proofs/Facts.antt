@@ -11,7 +11,7 @@ use Rattle.codes.specs.declared.Code.{Code}
 use Rattle.codes.specs.Code.{codeRight}
 use Rattle.records.specs.declared.State.{State}
 use Rattle.records.specs.Records.{member}
-use Rattle.records.specs.Resting.{among}
+use Rattle.records.specs.Numbers.{among}
 use Rattle.optable.specs.declared.Rule.{Rule}
 use Rattle.optable.specs.Validity.{valid}
 use Rattle.optable.specs.Lookup.{operationOf, listed, resultOf, errorOf, known, parameterOf, paired, childOf}

@@ -10,7 +10,7 @@ use Rattle.codes.specs.declared.Code.{Code}
 use Rattle.records.specs.declared.Record.{Record}
 use Rattle.records.specs.Limits.{octets}
 use Rattle.records.specs.State.{fresh}
-use Rattle.records.specs.Resting.{among, eachOnce}
+use Rattle.records.specs.Numbers.{among, eachOnce}
 use Rattle.records.proofs.IdLaws.{never-both}
 use Rattle.optable.specs.Lookup.{operationOf, resultOf, errorOf, parameterOf}
 use Rattle.optable.specs.Value.{valueRight}

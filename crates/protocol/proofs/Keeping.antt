@@ -12,7 +12,7 @@ use Rattle.base.proofs.Tests.{or-cases}
 use Rattle.codes.specs.declared.Code.{Code}
 use Rattle.records.specs.declared.Record.{Record}
 use Rattle.records.specs.Records.{member, without}
-use Rattle.records.specs.Resting.{among, eachOnce}
+use Rattle.records.specs.Numbers.{among, eachOnce}
 use Rattle.records.proofs.IdLaws.{never-both, among-added, once-added}
 use Rattle.apdu.specs.Parse.{invoke as Invoke}
 use Rattle.apdu.proofs.FirstOctet.{first-read}

@@ -14,7 +14,7 @@ use Rattle.records.specs.declared.State.{State}
 use Rattle.records.specs.Records.{without}
 use Rattle.records.specs.State.{retireOwn}
 use Rattle.records.proofs.Soundness.{view-retired}
-use Rattle.records.specs.Resting.{among}
+use Rattle.records.specs.Numbers.{among}
 use Rattle.apdu.specs.declared.Number.{Number}
 use Rattle.apdu.specs.declared.Number.the-variants.{Of, Absent}
 use Rattle.apdu.specs.declared.CodeField.the-variants.{Is}

@@ -13,7 +13,7 @@ use Rattle.records.specs.Limits.{octets}
 use Rattle.records.specs.Records.{member}
 use Rattle.codes.proofs.CodeLaws.{equal-code-same}
 use Rattle.records.proofs.Soundness.{sound-state}
-use Rattle.records.specs.Resting.{among}
+use Rattle.records.specs.Numbers.{among}
 use Rattle.optable.specs.Validity.{valid}
 use Rattle.optable.specs.Lookup.{Extends, operationOf, errorOf, known, paired}
 use Rattle.optable.proofs.TableLaws.{paired-known}

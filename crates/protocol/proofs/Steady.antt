@@ -14,7 +14,8 @@ use Rattle.records.specs.declared.Records.{Records}
 use Rattle.records.specs.declared.State.{State}
 use Rattle.records.specs.Limits.{records}
 use Rattle.records.specs.Records.{view, member, added, retired}
-use Rattle.records.specs.Resting.{among, rested}
+use Rattle.records.specs.Numbers.{among}
+use Rattle.records.specs.Resting.{rested}
 use Rattle.records.specs.State.{fresh, soundState, addOwn, addPeer, retireOwn, retirePeer, forgetOwn}
 use Rattle.records.proofs.RestingLaws.{SoundResting, rest-retired, rest-added, rest-forgotten}
 use Rattle.records.proofs.Soundness.{Sound, SoundParts, view-retired, view-added, added-is-sound, retired-is-sound, fresh-is-sound, sound-state}

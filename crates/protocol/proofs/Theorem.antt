@@ -7,7 +7,7 @@ use mathlib.Core.Option.{some, none}
 use native.Mathlib.Omega.{arith}
 use Rattle.records.specs.declared.Record.{Record}
 use Rattle.records.specs.State.{fresh}
-use Rattle.records.specs.Resting.{among, eachOnce}
+use Rattle.records.specs.Numbers.{among, eachOnce}
 use Rattle.records.proofs.IdLaws.{once-before}
 use Rattle.optable.specs.Validity.{valid}
 use Rattle.optable.specs.Lookup.{Extends}

@@ -7,7 +7,7 @@ use mathlib.Core.Logic.{_↔_}
 use mathlib.Core.Option.{some}
 use Rattle.codes.specs.declared.Code.{Code}
 use Rattle.codes.specs.declared.Code.the-variants.{Local, Global}
-use Rattle.records.specs.Resting.{among, eachOnce}
+use Rattle.records.specs.Numbers.{among, eachOnce}
 use Rattle.records.specs.State.{fresh}
 use Rattle.optable.specs.Validity.{valid}
 use Rattle.optable.specs.Lookup.{Extends, paired, errorOf, known}

@@ -9,7 +9,7 @@ use Rattle.codes.specs.declared.Code.{Code}
 use Rattle.records.specs.declared.State.{State}
 use Rattle.records.specs.Limits.{octets, levels}
 use Rattle.records.specs.Records.{member}
-use Rattle.records.specs.Resting.{among}
+use Rattle.records.specs.Numbers.{among}
 use Rattle.records.specs.State.{addOwn, retirePeer, forgetOwn}
 use Rattle.optable.specs.Lookup.{operationOf, listed, argumentOf, resultOf, errorOf, known, parameterOf, paired, childOf}
 use Rattle.optable.specs.Value.{valueRight}

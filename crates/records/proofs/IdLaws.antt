@@ -8,7 +8,7 @@ use lib.Dec.{eqb}
 use lib.ListN.{length, replicate}
 use borrow.Author.Tests.{eqb-true, eqb-false, eq-eqb, ne-eqb, not-true}
 use Rattle.base.proofs.Tests.{and-left, and-right, or-false-left, or-false-right}
-use Rattle.records.specs.Resting.{among, eachOnce, allZero}
+use Rattle.records.specs.Numbers.{among, eachOnce, allZero}
 use Rattle.records.specs.Steps.{noneAmong}
 
 pub never-both : (b : Bool) → b ≡ true → b ≡ false → ⊥

@@ -15,7 +15,8 @@ use Rattle.records.specs.declared.Record.{Record}
 use Rattle.records.specs.declared.Resting.{Resting}
 use Rattle.records.specs.Limits.{resting}
 use Rattle.records.specs.Records.{member, without}
-use Rattle.records.specs.Resting.{among, eachOnce, noneLive, viewIds, packIds, soundResting, staying, rested}
+use Rattle.records.specs.Numbers.{among, eachOnce}
+use Rattle.records.specs.Resting.{noneLive, viewIds, packIds, soundResting, staying, rested}
 use Rattle.records.proofs.IdLaws.{never-both, one-less, among-added, once-added, zero-replicate, zero-is-replicate}
 use Rattle.records.proofs.Laws.{member-added, member-without, lookup-retired, nothing-is-absent}
 

@@ -12,7 +12,8 @@ use Rattle.records.specs.declared.Record.{Record}
 use Rattle.records.specs.declared.Records.{Records}
 use Rattle.records.specs.Limits.{records}
 use Rattle.records.specs.Records.{stored, nameIn, unused, row, rows, places, side, lent, view, pack, member, distinct}
-use Rattle.records.specs.Resting.{among, eachOnce, noneLive}
+use Rattle.records.specs.Numbers.{among, eachOnce}
+use Rattle.records.specs.Resting.{noneLive}
 use Rattle.records.specs.Steps.{noneAmong}
 use Rattle.records.proofs.Stored.{stored-code, Storable, storable-append, storable-unused}
 

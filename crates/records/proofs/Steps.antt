@@ -16,7 +16,7 @@ use Rattle.records.specs.declared.Records.{Records}
 use Rattle.records.specs.declared.Found.the-variants.{Operation}
 use Rattle.records.specs.Limits.{records}
 use Rattle.records.specs.Records.{stored, codeOf, nameIn, unused, rows, places, lent, view, pack, lookup, without, formed, blank}
-use Rattle.records.specs.Resting.{allZero}
+use Rattle.records.specs.Numbers.{allZero}
 use Rattle.records.proofs.Laws.{without-append}
 use Rattle.records.proofs.Stored.{stored-code, zero-place, storable-take, storable-without}
 use Rattle.records.proofs.Rows.{rowAt, rows-length, rows-at, Even, storedAt, side-set}

@@ -2,7 +2,7 @@
 use Prim.Native.Nat.{ℕ, _%_}
 use mathlib.Core.Bool.{Bool, true, not, _&&_}
 use mathlib.Core.List.{List, [], _∷_}
-use Rattle.records.specs.Resting.{among}
+use Rattle.records.specs.Numbers.{among}
 
 -- how many flags ids share, and the flag of an id
 abbrev pub flags : ℕ

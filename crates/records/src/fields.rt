@@ -4,7 +4,7 @@ ghost use mathlib.Core.List.{List};
 ghost use Prim.Native.Nat.{ℕ, _≤_, _<_};
 ghost use lib.ListN.{length, take, drop};
 ghost use Rattle.records.specs.Records.{isLocal, stored, codeOf, rows, formed};
-ghost use Rattle.records.specs.Resting.{among, eachOnce, allZero};
+ghost use Rattle.records.specs.Numbers.{among, eachOnce, allZero};
 ghost use Rattle.records.specs.Steps.{flags, flagOf, noneAmong};
 use codes::Code;
 use codes::Name;

@@ -38,7 +38,7 @@ ghost use Prim.Native.Nat.{ℕ, _-_};
 ghost use Rattle.base.specs.Lists.{nonEmpty};
 ghost use Rattle.records.specs.Limits.{octets, levels};
 ghost use Rattle.records.specs.Records.{lent, view, lookup};
-ghost use Rattle.records.specs.Resting.{among};
+ghost use Rattle.records.specs.Numbers.{among};
 ghost use Rattle.records.specs.State.{putOwn};
 ghost use Rattle.optable.specs.declared.Part.the-variants.{Operations};
 ghost use Rattle.optable.specs.Lookup.{PlaceOf};

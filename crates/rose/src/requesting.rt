@@ -193,7 +193,7 @@ pub fn reject(state: State, table: &[u8], id: PeerId, problem: u8, out: &mut [u8
     }
 }
 
-// Retires an own record, or a peer record whose class is neither 1 nor 2, with nothing sent.
+// Retires an own record, whose id then rests, or a peer record whose class is neither 1 nor 2, with nothing sent.
 pub fn forget(state: State, table: &[u8], invocation: Invocation) -> Requested
     ensures { λ r. ⌜ RequestPromise (perform (now (table .entry)) state (forgetting invocation)) state [] [] [] r ⌝ }
 {

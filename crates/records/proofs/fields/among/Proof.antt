@@ -6,7 +6,7 @@ use mathlib.Core.Path.{_≡_, refl}
 use mathlib.Core.Bool.{_||_}
 use mathlib.Core.Logic.{⊎-elim}
 use lib.ListN.{take, drop}
-use Rattle.records.specs.Resting.{among}
+use Rattle.records.specs.Numbers.{among}
 use Rattle.records.proofs.Numbers.{found-here, found-next, found-ended}
 use Rattle.records.proofs.fields.among.Statement.{statement}
 use Rattle.records.proofs.fields.among.Tie as tie

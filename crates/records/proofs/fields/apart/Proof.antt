@@ -7,7 +7,7 @@ use mathlib.Core.Path.{_≡_, refl, sym, ap, subst, _∙_}
 use mathlib.Core.Bool.{true, false}
 use mathlib.Core.Logic.{⊎-elim}
 use lib.ListN.{length, take, drop, getD, length-set}
-use Rattle.records.specs.Resting.{among, eachOnce}
+use Rattle.records.specs.Numbers.{among, eachOnce}
 use Rattle.records.specs.Steps.{flags, flagOf}
 use Rattle.records.proofs.Numbers.{marked, marked-more, marked-none, unmarked-is-absent, among-here, among-next, among-none, apart-once, apart-twice, apart-none}
 use Rattle.records.proofs.fields.apart.Statement.{statement}

@@ -5,7 +5,7 @@ use mathlib.Core.Path.{_≡_, refl, sym}
 use mathlib.Core.Bool.{true}
 use mathlib.Core.List.{List, [], _∷_}
 use lib.ListN.{length, take, length-take}
-use Rattle.records.specs.Resting.{eachOnce}
+use Rattle.records.specs.Numbers.{eachOnce}
 use borrow.Author.Needs.{needs}
 use Rattle.records.proofs.fields.each_once.Statement.{statement}
 use Rattle.records.proofs.fields.each_once.Tie as tie
