@@ -12,6 +12,7 @@ use Rattle.records.specs.Limits.{octets}
 use Rattle.records.specs.State.{fresh}
 use Rattle.records.specs.Numbers.{among, eachOnce}
 use Rattle.records.proofs.IdLaws.{never-both}
+use Rattle.records.specs.Records.{idsOf}
 use Rattle.optable.specs.Lookup.{operationOf, resultOf, errorOf, parameterOf}
 use Rattle.optable.specs.Value.{valueRight}
 use Rattle.apdu.specs.declared.Number.{Number}
@@ -22,7 +23,7 @@ use Rattle.apdu.specs.Parse.{Apdu, parse, invoke as Invoke, result as Result, e
 use Rattle.apdu.proofs.RoundTrip.{bodyOf}
 use Rattle.protocol.specs.Check.{classIn, isClass, ownRecords, peerRecords}
 use Rattle.protocol.specs.Receive.{fieldCode}
-use Rattle.protocol.specs.Book.{idsOf, kiosk, controller, aResult, anError, Given, Wired, wired, Answered, World, begin}
+use Rattle.protocol.specs.Book.{kiosk, controller, aResult, anError, Given, Wired, wired, Answered, World, begin}
 use Rattle.apdu.proofs.FieldRoundTrip.{CodeFits}
 use Rattle.protocol.proofs.Steady.{Steady, steady-fresh}
 

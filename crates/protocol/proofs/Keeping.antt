@@ -11,16 +11,17 @@ use borrow.Author.Tests.{eqb-true, ne-eqb}
 use Rattle.base.proofs.Tests.{or-cases}
 use Rattle.codes.specs.declared.Code.{Code}
 use Rattle.records.specs.declared.Record.{Record}
-use Rattle.records.specs.Records.{member, without}
-use Rattle.records.specs.Numbers.{among, eachOnce}
-use Rattle.records.proofs.IdLaws.{never-both, among-added, once-added}
+use Rattle.records.specs.Records.{member, without, idsOf}
+use Rattle.records.specs.Numbers.{among, eachOnce, leaving}
+use Rattle.records.proofs.IdLaws.{never-both, among-added, once-added, among-leaving, among-left}
+use Rattle.records.proofs.Laws.{ids-added, ids-without}
 use Rattle.apdu.specs.Parse.{invoke as Invoke}
 use Rattle.apdu.proofs.FirstOctet.{first-read}
 use Rattle.protocol.specs.Check.{codeIn}
 use Rattle.protocol.specs.Receive.{fieldCode}
-use Rattle.protocol.specs.Book.{idsOf, leaving, End, kiosk, controller, Wired, wired, Answered, wiring}
+use Rattle.protocol.specs.Book.{End, kiosk, controller, Wired, wired, Answered, wiring}
 use Rattle.apdu.proofs.FieldRoundTrip.{CodeFits}
-use Rattle.protocol.proofs.Ids.{among-leaving, among-left, ids-added, ids-without, member-among, in-without, in-member, in-code}
+use Rattle.protocol.proofs.Ids.{in-without, in-member, in-code}
 use Rattle.protocol.proofs.Invariant.{Ours, Spoken, Known, NoAnswer, Sent}
 
 -- ---- the wire
@@ -96,10 +97,10 @@ module _ {owns : List Record} {live : List ℕ} {asked : List Record} {shown : L
   }
     where
       asked′ : among i (idsOf asked) ≡ true
-      asked′ = sym (member-among i asked) ∙ in-member (record { id = i; code = codeIn owns i }) asked (o .mine (record { id = i; code = codeIn owns i }) (in-code i owns h))
+      asked′ = in-member (record { id = i; code = codeIn owns i }) asked (o .mine (record { id = i; code = codeIn owns i }) (in-code i owns h))
 
       new : (b : Bool) → among i shown ≡ b → among i shown ≡ false
-      new true e = absurd (never-both (among i (idsOf owns)) (sym (member-among i owns) ∙ h) (o .gone i e))
+      new true e = absurd (never-both (among i (idsOf owns)) h (o .gone i e))
       new false e = e
 
       early′ : (j : ℕ) → (among j shown ≡ true) ⊎ (eqb i j ≡ true) → among j (idsOf asked) ≡ true

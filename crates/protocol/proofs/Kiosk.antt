@@ -11,10 +11,10 @@ use lib.Dec.{eqb}
 use Rattle.codes.specs.declared.Code.{Code}
 use Rattle.records.specs.declared.Record.{Record}
 use Rattle.records.specs.declared.State.{State}
-use Rattle.records.specs.Records.{without}
+use Rattle.records.specs.Records.{without, idsOf}
 use Rattle.records.specs.State.{retireOwn}
 use Rattle.records.proofs.Soundness.{view-retired}
-use Rattle.records.specs.Numbers.{among}
+use Rattle.records.specs.Numbers.{among, leaving}
 use Rattle.apdu.specs.declared.Number.{Number}
 use Rattle.apdu.specs.declared.Number.the-variants.{Of, Absent}
 use Rattle.apdu.specs.declared.CodeField.the-variants.{Is}
@@ -28,7 +28,7 @@ use Rattle.protocol.specs.Call.{own, peer, Indication, invoked, resulted
 use Rattle.protocol.specs.Check.{Check, answer, codeIn, ownRecords, peerRecords, isSilent, inApdu}
 use Rattle.protocol.specs.Receive.{fieldCode, fault, invokeChecks, resultChecks, errorChecks, withPeer, retiredBy, rejection, receiveApdu}
 use Rattle.protocol.specs.Perform.{checks, done, resultApdu}
-use Rattle.protocol.specs.Book.{idsOf, leaving, leavingBy, End, kiosk, controller, at, Wired, wired, wiring, World, showing, shownBy, after}
+use Rattle.protocol.specs.Book.{leavingBy, End, kiosk, controller, at, Wired, wired, wiring, World, showing, shownBy, after}
 use Rattle.protocol.specs.Demand3.{InRange}
 use Rattle.protocol.proofs.Checks.{Pass, settle}
 use Rattle.protocol.proofs.Facts.{invoke-facts, arrived-result, arrived-error, invoked-right}

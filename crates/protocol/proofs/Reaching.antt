@@ -30,7 +30,7 @@ use Rattle.protocol.specs.Book.{kiosk, Given, World}
 use Rattle.protocol.specs.Demand3.{isLive, Listed, unlistedProblem, AnswerClaim, Reaches}
 use Rattle.protocol.proofs.Checks.{Pass, pass, accepted-passes}
 use Rattle.protocol.proofs.Facts.{ArrivedError, arrived-result, arrived-error}
-use Rattle.protocol.proofs.Ids.{member-among, in-code}
+use Rattle.protocol.proofs.Ids.{in-code}
 use Rattle.protocol.proofs.Coverage.{covered-in}
 use Rattle.protocol.proofs.Steady.{steady-sound, steady-usable}
 use Rattle.protocol.proofs.Invariant.{ToldResult, ToldError, Told, Inv}
@@ -46,10 +46,10 @@ module _ (O N : List ℕ) (valid-O : valid O ≡ true) (extends : Extends N O) w
 
   module _ (w : World) (inv : Inv O N w) (i : ℕ) where
     live-member : isLive (w .book) i → member i (ownRecords (w .kiosk)) ≡ true
-    live-member h = member-among i (ownRecords (w .kiosk)) ∙ sym (ap (among i) (inv .kept .ours .alive)) ∙ h
+    live-member h = sym (ap (among i) (inv .kept .ours .alive)) ∙ h
 
     member-live : member i (ownRecords (w .kiosk)) ≡ true → isLive (w .book) i
-    member-live h = ap (among i) (inv .kept .ours .alive) ∙ sym (member-among i (ownRecords (w .kiosk))) ∙ h
+    member-live h = ap (among i) (inv .kept .ours .alive) ∙ h
 
     -- the record's operation is the same in both tables
     same-operation : (c : Code) → In (record { id = i; code = c }) (w .book .heard) → member i (ownRecords (w .kiosk)) ≡ true → operationOf N c ≡ operationOf O (codeIn (ownRecords (w .kiosk)) i)

@@ -9,15 +9,16 @@ use Rattle.records.specs.declared.Record.{Record}
 use Rattle.records.specs.State.{fresh}
 use Rattle.records.specs.Numbers.{among, eachOnce}
 use Rattle.records.proofs.IdLaws.{once-before}
+use Rattle.records.specs.Records.{idsOf}
+use Rattle.records.proofs.Laws.{ids-added}
 use Rattle.optable.specs.Validity.{valid}
 use Rattle.optable.specs.Lookup.{Extends}
 use Rattle.protocol.specs.Call.{own, peer, Call, receive, invoke, result, error, reject, forget, Answer, accepted, refused, isRefused, indicatedBy}
 use Rattle.protocol.specs.Check.{Check, answer}
 use Rattle.protocol.specs.Perform.{checks, done, perform}
-use Rattle.protocol.specs.Book.{idsOf, asking, kiosk, controller, Event, at, Given, World, begin, shownBy, after, answerTo, next, Along, final}
+use Rattle.protocol.specs.Book.{asking, kiosk, controller, Event, at, Given, World, begin, shownBy, after, answerTo, next, Along, final}
 use Rattle.protocol.specs.Demand3.{Fair, UsesIdsOnce, Claim, Demand3}
 use Rattle.protocol.proofs.Checks.{Pass, settle}
-use Rattle.protocol.proofs.Ids.{ids-added}
 use Rattle.protocol.proofs.Steady.{steady-step}
 use Rattle.protocol.proofs.Invariant.{Kept, Inv, inv-begin}
 use Rattle.protocol.proofs.Kiosk.{isInvoke, idIn, kept-refused, kept-kiosk}

@@ -8,7 +8,8 @@ use Rattle.codes.specs.declared.Code.{Code}
 use Rattle.codes.specs.declared.Code.the-variants.{Local}
 use Rattle.records.specs.declared.Record.{Record}
 use Rattle.records.specs.declared.State.{State}
-use Rattle.records.specs.Numbers.{among}
+use Rattle.records.specs.Numbers.{among, leaving}
+use Rattle.records.specs.Records.{idsOf}
 use Rattle.apdu.specs.declared.Number.the-variants.{Of, Absent}
 use Rattle.apdu.specs.Field.{octetsOf}
 use Rattle.apdu.specs.Parse.{bodyValue, Apdu, badlyStructured, unrecognized, mistyped, parse, invoke as Invoke, result as Result, error as Error, reject as Reject}
@@ -17,16 +18,6 @@ use Rattle.protocol.specs.Call.{own, peer, Call, receive, invoke, result
 use Rattle.protocol.specs.Check.{isSilent}
 use Rattle.protocol.specs.Receive.{fieldCode}
 use Rattle.protocol.specs.Perform.{perform}
-
--- ---- ids
-
-abbrev pub idsOf : List Record → List ℕ
-idsOf [] = []
-idsOf (r ∷ l) = r .id ∷ idsOf l
-
-abbrev pub leaving : ℕ → List ℕ → List ℕ
-leaving i [] = []
-leaving i (x ∷ l) = cond (eqb x i) (leaving i l) (x ∷ leaving i l)
 
 -- the code last noted with an id, 0 where there is none
 abbrev pub lastCode : ℕ → List Record → Code

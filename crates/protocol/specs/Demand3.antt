@@ -9,13 +9,14 @@ use Rattle.codes.specs.declared.Code.{Code}
 use Rattle.codes.specs.declared.Code.the-variants.{Local, Global}
 use Rattle.records.specs.Numbers.{among, eachOnce}
 use Rattle.records.specs.State.{fresh}
+use Rattle.records.specs.Records.{idsOf}
 use Rattle.optable.specs.Validity.{valid}
 use Rattle.optable.specs.Lookup.{Extends, paired, errorOf, known}
 use Rattle.apdu.specs.declared.Number.{Number}
 use Rattle.apdu.specs.declared.Number.the-variants.{Of, Absent}
 use Rattle.protocol.specs.Call.{Call, receive, invoke, result, error, reject, forget, rejecting, Answer, refused, isRefused, indicatedBy}
 use Rattle.protocol.specs.Check.{leastRoom}
-use Rattle.protocol.specs.Book.{idsOf, End, kiosk, controller, other, Event, at, Given, Wired, wired, Answered, Book, World, begin, shownBy, answerTo, Along, final}
+use Rattle.protocol.specs.Book.{End, kiosk, controller, other, Event, at, Given, Wired, wired, Answered, Book, World, begin, shownBy, answerTo, Along, final}
 
 -- ---- premises
 

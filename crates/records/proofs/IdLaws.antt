@@ -1,15 +1,14 @@
--- Lists of ids: what stands among them after one is added, and two lists that share none.
+-- Lists of ids: what stands among them after one is added or leaves, and two lists that share none.
 use Prim.Native.Nat.{ℕ, zero, suc, _+_, _-_, _<_}
 use native.Mathlib.Omega.{arith}
 use mathlib.Core.Path.{_≡_, refl, sym, ap, _∙_}
 use mathlib.Core.Bool.{Bool, true, false, not, _&&_, _||_, false≢true}
 use mathlib.Core.List.{List, [], _∷_, _++_}
 use lib.Dec.{eqb}
-use lib.ListN.{length, replicate}
+use lib.ListN.{length, drop, replicate}
 use borrow.Author.Tests.{eqb-true, eqb-false, eq-eqb, ne-eqb, not-true}
-use Rattle.base.proofs.Tests.{and-left, and-right, or-false-left, or-false-right}
-use Rattle.records.specs.Numbers.{among, eachOnce, allZero}
-use Rattle.records.specs.Steps.{noneAmong}
+use Rattle.base.proofs.Tests.{cond-elim, and-left, and-right, or-false-left, or-false-right}
+use Rattle.records.specs.Numbers.{among, eachOnce, leaving, noneAmong, allZero}
 
 pub never-both : (b : Bool) → b ≡ true → b ≡ false → ⊥
 never-both b p q = false≢true (sym q ∙ p)
@@ -48,6 +47,21 @@ once-before (y ∷ l) x h =
     let d : eqb y x ≡ false = ne-eqb y x (λ e. eqb-false x y (or-false-right (among y l) (eqb x y) a) (sym e)) in
     (rw (or-false-left (among y l) (eqb x y) a) (rest .0), rw d (rest .1))
 
+-- ---- an id leaves
+
+pub among-leaving : (i j : ℕ) (l : List ℕ) → among i l ≡ false → among i (leaving j l) ≡ false
+among-leaving i j [] h = refl
+among-leaving i j (x ∷ l) h =
+    let rest = among-leaving i j l (or-false-right (eqb x i) (among i l) h) in
+    cond-elim (λ (m : List ℕ). among i m ≡ false) (eqb x j) (leaving j l) (x ∷ leaving j l) (λ _. rest)
+    (λ _. rw (or-false-left (eqb x i) (among i l) h) rest)
+
+pub among-left : (i : ℕ) (l : List ℕ) → among i (leaving i l) ≡ false
+among-left i [] = refl
+among-left i (x ∷ l) =
+    let rest = among-left i l in
+    cond-elim (λ (m : List ℕ). among i m ≡ false) (eqb x i) (leaving i l) (x ∷ leaving i l) (λ _. rest) (λ e. rw e rest)
+
 -- ---- two lists that share none
 
 same-either-way : (x y : ℕ) → eqb x y ≡ eqb y x
@@ -81,6 +95,11 @@ none-either-way (x ∷ k) l = ap (λ (b : Bool). not (among x l) && b) (none-eit
 pub zero-replicate : (k : ℕ) → allZero (replicate k 0) ≡ true
 zero-replicate zero = refl
 zero-replicate (suc k) = zero-replicate k
+
+pub zero-behind : (n k : ℕ) → allZero (drop n (replicate k 0)) ≡ true
+zero-behind zero k = zero-replicate k
+zero-behind (suc n) zero = refl
+zero-behind (suc n) (suc k) = zero-behind n k
 
 pub zero-is-replicate : (l : List ℕ) → allZero l ≡ true → l ≡ replicate (length l) 0
 zero-is-replicate [] h = refl

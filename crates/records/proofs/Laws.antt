@@ -2,9 +2,9 @@
 use Prim.Native.Nat.{ℕ, suc, _≤_}
 use native.Mathlib.Omega.{arith}
 use mathlib.Core.Path.{_≡_, refl, sym, ap, subst, _∙_}
-use mathlib.Core.Bool.{true, false, not, false≢true}
+use mathlib.Core.Bool.{Bool, true, false, not, false≢true, cond}
 use mathlib.Core.List.{List, [], _∷_, _++_}
-use borrow.Author.Tests.{eq-eqb, ne-eqb, eqb-true, eqb-false, not-true}
+use borrow.Author.Tests.{eq-eqb, ne-eqb, eqb-true, not-true}
 use lib.Dec.{eqb}
 use lib.ListN.{length}
 use Rattle.base.proofs.Tests.{and-true, and-left, and-right, or-false-left, or-false-right, cond-false, cond-elim, cond-elim₂}
@@ -12,7 +12,9 @@ use Rattle.codes.specs.declared.Code.{Code}
 use Rattle.codes.specs.Code.{codeRight}
 use Rattle.records.specs.declared.Record.{Record}
 use Rattle.records.specs.declared.Found.the-variants.{Operation, Nothing}
-use Rattle.records.specs.Records.{lookup, member, without, distinct, formed}
+use Rattle.records.specs.Numbers.{leaving}
+use Rattle.records.specs.Records.{lookup, idsOf, member, without, distinct, formed}
+use Rattle.records.proofs.IdLaws.{among-added, once-added, among-leaving, among-left}
 
 operation-nothing : {k : Code} → Operation k ≡ Nothing → ⊥
 operation-nothing {k} e =
@@ -58,16 +60,15 @@ found-is-member n (r ∷ l) k h =
 
 -- ---- a record added last
 
+pub ids-added : (r : Record) (l : List Record) → idsOf (l ++ r ∷ []) ≡ idsOf l ++ r .id ∷ []
+ids-added r [] = refl
+ids-added r (x ∷ l) = rw (ids-added r l)
+
 pub member-added : (m : ℕ) (l : List Record) (r : Record) → member m l ≡ false → (r .id ≡ m → ⊥) → member m (l ++ r ∷ []) ≡ false
-member-added m [] r h g = simp (ne-eqb _ _ g)
-member-added m (x ∷ l) r h g = rw (head-other x l m h) (member-added m l r (tail-absent x l m h) g)
+member-added m l r h g = rw (ids-added r l, among-added m (r .id) (idsOf l), h) (ne-eqb (r .id) m g)
 
 pub distinct-added : (l : List Record) (r : Record) → distinct l ≡ true → member (r .id) l ≡ false → distinct (l ++ r ∷ []) ≡ true
-distinct-added [] r h g = refl
-distinct-added (x ∷ l) r h g =
-    let apart : r .id ≡ x .id → ⊥ = λ e. eqb-false (x .id) (r .id) (head-other x l (r .id) g) (sym e) in
-    rw (member-added (x .id) l r (head-once x l h) apart)
-    (distinct-added l r (tail-distinct x l h) (tail-absent x l (r .id) g))
+distinct-added l r h g = rw (ids-added r l) (once-added (r .id) (idsOf l) h g)
 
 pub formed-added : (l : List Record) (r : Record) → formed l ≡ true → codeRight (r .code) ≡ true → formed (l ++ r ∷ []) ≡ true
 formed-added [] r h g = and-true g refl
@@ -113,11 +114,19 @@ without-one n (r ∷ l) once h =
     (λ e. ap suc (ap length (sym (without-absent n l (subst (λ (k : ℕ). member k l ≡ false) (eqb-true (r .id) n e) (head-once r l once))))))
     (λ e. ap suc (without-one n l (tail-distinct r l once) (rw e at h)))
 
+pub ids-without : (i : ℕ) (l : List Record) → idsOf (without i l) ≡ leaving i (idsOf l)
+ids-without i [] = refl
+ids-without i (r ∷ l) = go (eqb (r .id) i) (ids-without i l)
+  where
+    go : (b : Bool) → idsOf (without i l) ≡ leaving i (idsOf l) → idsOf (cond b (without i l) (r ∷ without i l)) ≡ cond b (leaving i (idsOf l)) (r .id ∷ leaving i (idsOf l))
+    go true ih = ih
+    go false ih = rw ih
+
 pub member-without : (n m : ℕ) (l : List Record) → member m l ≡ false → member m (without n l) ≡ false
-member-without n m [] h = refl
-member-without n m (r ∷ l) h =
-    let rest = member-without n m l (tail-absent r l m h) in
-    without-cases (λ x. member m x ≡ false) n r l (λ _. rest) (λ _. rw (head-other r l m h) rest)
+member-without n m l h = rw (ids-without n l) (among-leaving m n (idsOf l) h)
+
+pub member-gone : (n : ℕ) (l : List Record) → member n (without n l) ≡ false
+member-gone n l = rw (ids-without n l) (among-left n (idsOf l))
 
 pub distinct-without : (n : ℕ) (l : List Record) → distinct l ≡ true → distinct (without n l) ≡ true
 distinct-without n [] h = refl

@@ -11,8 +11,8 @@ use lib.Dec.{eqb}
 use lib.ListN.{length, take, drop, getD, set, drop-of-length-le, length-take}
 use lib.Seq.{drop-cons, getD-take, getD-set-same, getD-set-other, length-take-le}
 use Rattle.base.proofs.Tests.{and-true, and-left, and-right}
-use Rattle.records.specs.Numbers.{among, eachOnce}
-use Rattle.records.specs.Steps.{flagOf, noneAmong}
+use Rattle.records.specs.Numbers.{among, eachOnce, noneAmong}
+use Rattle.records.specs.Steps.{flagOf}
 
 or-true : (f : Bool) → (f || true) ≡ true
 or-true true = refl

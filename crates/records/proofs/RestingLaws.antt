@@ -14,11 +14,11 @@ use Rattle.base.proofs.Tests.{cond-elim, and-left, and-right, or-cases, or-true
 use Rattle.records.specs.declared.Record.{Record}
 use Rattle.records.specs.declared.Resting.{Resting}
 use Rattle.records.specs.Limits.{resting}
-use Rattle.records.specs.Records.{member, without}
-use Rattle.records.specs.Numbers.{among, eachOnce}
-use Rattle.records.specs.Resting.{noneLive, viewIds, packIds, soundResting, staying, rested}
+use Rattle.records.specs.Records.{idsOf, member, without}
+use Rattle.records.specs.Numbers.{among, eachOnce, noneAmong}
+use Rattle.records.specs.Resting.{viewIds, packIds, soundResting, staying, rested}
 use Rattle.records.proofs.IdLaws.{never-both, one-less, among-added, once-added, zero-replicate, zero-is-replicate}
-use Rattle.records.proofs.Laws.{member-added, member-without, lookup-retired, nothing-is-absent}
+use Rattle.records.proofs.Laws.{member-added, member-without, member-gone}
 
 -- ---- the list and its places
 
@@ -102,7 +102,7 @@ resting-is-packed owns r full h =
     let n : length (viewIds r) ≡ r .count = length-take-le (r .count) (r .ids) (omega arith) in
     let left : length (drop (r .count) (r .ids)) ≡ resting - length (viewIds r) = omega (arith, length-drop (r .count) (r .ids)) in
     let clear : drop (r .count) (r .ids) ≡ replicate (resting - length (viewIds r)) 0 =
-    zero-is-replicate (drop (r .count) (r .ids)) (and-right (noneLive owns (viewIds r)) _ behind) ∙ ap (λ (k : ℕ). replicate k 0) left in
+    zero-is-replicate (drop (r .count) (r .ids)) (and-right (noneAmong (viewIds r) (idsOf owns)) _ behind) ∙ ap (λ (k : ℕ). replicate k 0) left in
     let ids : r .ids ≡ packIds (viewIds r) .ids = sym (take-append-drop (r .count) (r .ids)) ∙ (λ t. viewIds r ++ clear t) in
     λ t. record { count = sym n t; ids = ids t }
 
@@ -115,12 +115,12 @@ pub record SoundResting (owns : List Record) (r : Resting) : Type 0 where
   pub apart : (i : ℕ) → among i (viewIds r) ≡ true → member i owns ≡ false
   pub packed : r ≡ packIds (viewIds r)
 
-none-live : (owns : List Record) (l : List ℕ) → ((i : ℕ) → among i l ≡ true → member i owns ≡ false) → noneLive owns l ≡ true
+none-live : (owns : List Record) (l : List ℕ) → ((i : ℕ) → among i l ≡ true → member i owns ≡ false) → noneAmong l (idsOf owns) ≡ true
 none-live owns [] h = refl
 none-live owns (x ∷ l) h =
     rw (h x (or-true-left (eqb x x) (among x l) (eq-eqb x x refl))) (none-live owns l (λ i m. h i (or-true-right (eqb x i) (among i l) m)))
 
-packed-test : (owns : List Record) (l : List ℕ) → length l ≤ resting → eachOnce l ≡ true → noneLive owns l ≡ true → soundResting owns (packIds l) ≡ true
+packed-test : (owns : List Record) (l : List ℕ) → length l ≤ resting → eachOnce l ≡ true → noneAmong l (idsOf owns) ≡ true → soundResting owns (packIds l) ≡ true
 packed-test owns l few once apart = simp (le-leb _ _ few, view-pack-ids, drop-append-seam, once, apart, zero-replicate)
 
 pub resting-test : {owns : List Record} {r : Resting} → SoundResting owns r → soundResting owns r ≡ true
@@ -188,4 +188,4 @@ rest-forgotten {owns} {r} i live h =
 
     apart : (m : List ℕ) → ((j : ℕ) → among j m ≡ true → among j (viewIds r) ≡ true) → (j : ℕ) → (among j m ≡ true) ⊎ (eqb i j ≡ true) → member j (without i owns) ≡ false
     apart m f j (inl e) = member-without i j owns (h .apart j (f j e))
-    apart m f j (inr e) = rw (← (eqb-true i j e)) (nothing-is-absent i (without i owns) (lookup-retired i owns))
+    apart m f j (inr e) = rw (← (eqb-true i j e)) (member-gone i owns)

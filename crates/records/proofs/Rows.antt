@@ -2,19 +2,14 @@
 use Prim.Native.Nat.{ℕ, zero, suc, _-_, _<_}
 use native.Mathlib.Omega.{arith}
 use mathlib.Core.Path.{_≡_, refl, ap, _∙_}
-use mathlib.Core.Bool.{Bool, _||_}
 use mathlib.Core.List.{List, [], _∷_, _++_, map}
-use lib.Dec.{eqb}
 use lib.ListN.{length, take, drop, getD, set, replicate}
 use lib.Seq.{take-append-seam}
 use Rattle.codes.specs.declared.Name.{Name}
 use Rattle.records.specs.declared.Record.{Record}
 use Rattle.records.specs.declared.Records.{Records}
 use Rattle.records.specs.Limits.{records}
-use Rattle.records.specs.Records.{stored, nameIn, unused, row, rows, places, side, lent, view, pack, member, distinct}
-use Rattle.records.specs.Numbers.{among, eachOnce}
-use Rattle.records.specs.Resting.{noneLive}
-use Rattle.records.specs.Steps.{noneAmong}
+use Rattle.records.specs.Records.{stored, nameIn, unused, row, rows, places, side, lent, view, pack, idsOf}
 use Rattle.records.proofs.Stored.{stored-code, Storable, storable-append, storable-unused}
 
 tail-at : (l : List ℕ) (i : ℕ) → getD (drop 1 l) i 0 ≡ getD l (suc i) 0
@@ -118,17 +113,7 @@ view-pack l h =
 
 -- ---- what is asked of the ids alone
 
-pub member-ids : (m n : ℕ) (ids lengths highs lows : List ℕ) → member m (take n (rows ids lengths highs lows)) ≡ among m (take n ids)
-member-ids m zero ids lengths highs lows = refl
-member-ids m (suc n) [] lengths highs lows = refl
-member-ids m (suc n) (i ∷ ids) lengths highs lows = ap (λ (b : Bool). eqb i m || b) (member-ids m n ids (drop 1 lengths) (drop 1 highs) (drop 1 lows))
-
-pub distinct-ids : (n : ℕ) (ids lengths highs lows : List ℕ) → distinct (take n (rows ids lengths highs lows)) ≡ eachOnce (take n ids)
-distinct-ids zero ids lengths highs lows = refl
-distinct-ids (suc n) [] lengths highs lows = refl
-distinct-ids (suc n) (i ∷ ids) lengths highs lows =
-    rw (member-ids i n ids (drop 1 lengths) (drop 1 highs) (drop 1 lows), distinct-ids n ids (drop 1 lengths) (drop 1 highs) (drop 1 lows)) refl
-
-pub live-ids : (l : List ℕ) (n : ℕ) (ids lengths highs lows : List ℕ) → noneLive (take n (rows ids lengths highs lows)) l ≡ noneAmong l (take n ids)
-live-ids [] n ids lengths highs lows = refl
-live-ids (i ∷ l) n ids lengths highs lows = rw (member-ids i n ids lengths highs lows, live-ids l n ids lengths highs lows) refl
+pub ids-of-rows : (n : ℕ) (ids lengths highs lows : List ℕ) → idsOf (take n (rows ids lengths highs lows)) ≡ take n ids
+ids-of-rows zero ids lengths highs lows = refl
+ids-of-rows (suc n) [] lengths highs lows = refl
+ids-of-rows (suc n) (i ∷ ids) lengths highs lows = ap (λ (l : List ℕ). i ∷ l) (ids-of-rows n ids (drop 1 lengths) (drop 1 highs) (drop 1 lows))

@@ -49,15 +49,6 @@ no-bit a b = go (eqb a 0) refl (eqb b 0) refl
     go true e false f = ne-eqb (bitOr a b) 0 (λ z. eqb-false b 0 f (omega (arith, z, or-add-and a b, and-le-l a b)))
     go false e y f = ne-eqb (bitOr a b) 0 (λ z. eqb-false a 0 e (omega (arith, z, or-add-and a b, and-le-r a b)))
 
--- a list holds 0 from i on, as far as the numbers that were read before have no bit set
-module _ (l : List ℕ) (i used : ℕ) where
-  pub zero-step : i < length l → (eqb used 0 && allZero (drop i l)) ≡ (eqb (bitOr used (getD l i 0)) 0 && allZero (drop (i + 1) l))
-  zero-step p =
-      rw (add-one, drop-cons l i 0 p, no-bit used (getD l i 0)) (sym (and-assoc (eqb used 0) (eqb (getD l i 0) 0) (allZero (drop (suc i) l))))
-
-  pub zero-ended : length l ≤ i → (eqb used 0 && allZero (drop i l)) ≡ eqb used 0
-  zero-ended p = rw (drop-of-length-le l {i = i} p) (and-true (eqb used 0))
-
 -- four tests joined in two ways
 interchange : (a x b y : Bool) → ((a && x) && (b && y)) ≡ ((a && b) && (x && y))
 interchange false x b y = refl
@@ -65,13 +56,28 @@ interchange true x true y = refl
 interchange true true false y = refl
 interchange true false false y = refl
 
-eight-tests : (a b c d x y z w : Bool) → ((a && x) && ((b && y) && ((c && z) && (d && w)))) ≡ ((a && (b && (c && d))) && (x && (y && (z && w))))
+-- two lists hold 0 from i on, as far as the numbers that were read before have no bit set
+module _ (a b : List ℕ) (i used : ℕ) where
+  zero-at : (l : List ℕ) → i < length l → allZero (drop i l) ≡ (eqb (getD l i 0) 0 && allZero (drop (i + 1) l))
+  zero-at l p = rw (drop-cons l i 0 p, add-one) refl
+
+  pub zero-step : i < length a → length a ≡ length b
+      → (eqb used 0 && (allZero (drop i a) && allZero (drop i b))) ≡ (eqb (bitOr used (bitOr (getD a i 0) (getD b i 0))) 0 && (allZero (drop (i + 1) a) && allZero (drop (i + 1) b)))
+  zero-step p q =
+      rw (zero-at a p, zero-at b (omega arith), no-bit used (bitOr (getD a i 0) (getD b i 0)), no-bit (getD a i 0) (getD b i 0))
+      (ap (λ (t : Bool). eqb used 0 && t) (interchange (eqb (getD a i 0) 0) (allZero (drop (i + 1) a)) (eqb (getD b i 0) 0) (allZero (drop (i + 1) b)))
+      ∙ sym (and-assoc (eqb used 0) (eqb (getD a i 0) 0 && eqb (getD b i 0) 0) (allZero (drop (i + 1) a) && allZero (drop (i + 1) b))))
+
+  pub zero-ended : length a ≤ i → length a ≡ length b → (eqb used 0 && (allZero (drop i a) && allZero (drop i b))) ≡ eqb used 0
+  zero-ended p q = rw (drop-of-length-le a {i = i} (omega arith), drop-of-length-le b {i = i} (omega arith)) (and-true (eqb used 0))
+
+eight-tests : (a b c d x y z w : Bool) → (((a && x) && (b && y)) && ((c && z) && (d && w))) ≡ ((a && (b && (c && d))) && ((x && y) && (z && w)))
 eight-tests a b c d x y z w =
-    rw (interchange c z d w, interchange b y (c && d) (z && w), interchange a x (b && (c && d)) (y && (z && w))) refl
+    rw (interchange a x b y, interchange c z d w, interchange (a && b) (x && y) (c && d) (z && w), and-assoc a b (c && d)) refl
 
 -- the places from a place on are unused just where each field is 0 there
 pub blank-fields : (n : ℕ) (ids lengths highs lows : List ℕ) → length ids ≡ length lengths → length ids ≡ length highs → length ids ≡ length lows
-    → (allZero (drop n ids) && (allZero (drop n lengths) && (allZero (drop n highs) && allZero (drop n lows)))) ≡ blank (drop n (rows ids lengths highs lows))
+    → ((allZero (drop n ids) && allZero (drop n lengths)) && (allZero (drop n highs) && allZero (drop n lows))) ≡ blank (drop n (rows ids lengths highs lows))
 blank-fields zero [] [] [] [] p q r = refl
 blank-fields (suc n) [] [] [] [] p q r = refl
 blank-fields n [] (l ∷ lengths) highs lows p q r = absurd (omega arith)

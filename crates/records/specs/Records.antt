@@ -1,6 +1,6 @@
 -- The records of one side: document 01, 'Records'; document 02, Five. What finding, adding and retiring mean is said of the list of the live records.
 use Prim.Native.Nat.{ℕ, _+_, _-_, _*_, _/_, _%_}
-use mathlib.Core.Bool.{Bool, true, false, cond, not, _&&_, _||_}
+use mathlib.Core.Bool.{Bool, true, cond, _&&_}
 use mathlib.Core.List.{List, [], _∷_, _++_, map}
 use lib.ListN.{length, take, drop, getD, set, replicate}
 use lib.Dec.{eqb, leb, ltb}
@@ -13,6 +13,7 @@ use Rattle.records.specs.declared.Records.{Records}
 use Rattle.records.specs.declared.Found.{Found}
 use Rattle.records.specs.declared.Found.the-variants.{Operation, Nothing}
 use Rattle.records.specs.Limits.{records}
+use Rattle.records.specs.Numbers.{among, eachOnce}
 
 -- ---- how a code stands in a place
 
@@ -79,10 +80,14 @@ abbrev pub lookup : ℕ → List Record → Found
 lookup n [] = Nothing
 lookup n (r ∷ l) = cond (eqb (r .id) n) (Operation (r .code)) (lookup n l)
 
+-- the ids of the records
+abbrev pub idsOf : List Record → List ℕ
+idsOf [] = []
+idsOf (r ∷ l) = r .id ∷ idsOf l
+
 -- the id is among the records
 abbrev pub member : ℕ → List Record → Bool
-member n [] = false
-member n (r ∷ l) = eqb (r .id) n || member n l
+member n l = among n (idsOf l)
 
 -- the records without the one of the id, order kept
 abbrev pub without : ℕ → List Record → List Record
@@ -91,8 +96,7 @@ without n (r ∷ l) = cond (eqb (r .id) n) (without n l) (r ∷ without n l)
 
 -- no id stands twice
 abbrev pub distinct : List Record → Bool
-distinct [] = true
-distinct (r ∷ l) = not (member (r .id) l) && distinct l
+distinct l = eachOnce (idsOf l)
 
 -- each code has its form
 abbrev pub formed : List Record → Bool

@@ -1,11 +1,12 @@
 // Fields of a state's parts, lent as lists of numbers.
 ghost use mathlib.Core.Path.{_≡_};
+ghost use mathlib.Core.Bool.{_&&_};
 ghost use mathlib.Core.List.{List};
 ghost use Prim.Native.Nat.{ℕ, _≤_, _<_};
 ghost use lib.ListN.{length, take, drop};
 ghost use Rattle.records.specs.Records.{isLocal, stored, codeOf, rows, formed};
-ghost use Rattle.records.specs.Numbers.{among, eachOnce, allZero};
-ghost use Rattle.records.specs.Steps.{flags, flagOf, noneAmong};
+ghost use Rattle.records.specs.Numbers.{among, eachOnce, allZero, noneAmong};
+ghost use Rattle.records.specs.Steps.{flags, flagOf};
 use codes::Code;
 use codes::Name;
 
@@ -89,40 +90,29 @@ pub(crate) fn each_once(n: usize, ids: &[u32]) -> bool
     apart(n, ids)
 }
 
-// Whether the ids from `from` on are 0. The walk is not left early, so that places are read several at a time.
-pub(crate) fn are_ids_clear(from: usize, ids: &[u32]) -> bool
-    ensures { λ r. ⌜ r ≡ allZero (drop from (now (ids .entry))) ⌝ }
+// Whether the ids and the lengths beside them are 0 from `from` on. The walk is not left early, so that places are read several at a time.
+pub(crate) fn are_ids_clear<'a>(from: usize, ids: &'a [u32], lengths: &'a [u8]) -> bool
+    requires { ⌜ length (now ids) ≡ length (now lengths) ⌝ }
+    ensures { λ r. ⌜ r ≡ (allZero (drop from (now (ids .entry))) && allZero (drop from (now (lengths .entry)))) ⌝ }
 {
     let mut used: u32 = 0;
     let mut i = from;
     while i < ids.len() {
-        used = used | ids[i];
+        used = used | (ids[i] | (lengths[i] as u32));
         i += 1;
     }
     used == 0
 }
 
-// The same of lengths.
-pub(crate) fn are_lengths_clear(from: usize, lengths: &[u8]) -> bool
-    ensures { λ r. ⌜ r ≡ allZero (drop from (now (lengths .entry))) ⌝ }
-{
-    let mut used: u8 = 0;
-    let mut i = from;
-    while i < lengths.len() {
-        used = used | lengths[i];
-        i += 1;
-    }
-    used == 0
-}
-
-// The same of words.
-pub(crate) fn are_words_clear(from: usize, words: &[u64]) -> bool
-    ensures { λ r. ⌜ r ≡ allZero (drop from (now (words .entry))) ⌝ }
+// The same of two lists of words.
+pub(crate) fn are_words_clear<'a>(from: usize, highs: &'a [u64], lows: &'a [u64]) -> bool
+    requires { ⌜ length (now highs) ≡ length (now lows) ⌝ }
+    ensures { λ r. ⌜ r ≡ (allZero (drop from (now (highs .entry))) && allZero (drop from (now (lows .entry)))) ⌝ }
 {
     let mut used: u64 = 0;
     let mut i = from;
-    while i < words.len() {
-        used = used | words[i];
+    while i < highs.len() {
+        used = used | (highs[i] | lows[i]);
         i += 1;
     }
     used == 0

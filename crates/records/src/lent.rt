@@ -14,7 +14,6 @@ use crate::State;
 use crate::fields::among;
 use crate::fields::are_formed;
 use crate::fields::are_ids_clear;
-use crate::fields::are_lengths_clear;
 use crate::fields::are_words_clear;
 use crate::fields::code_of;
 use crate::fields::each_once;
@@ -127,9 +126,7 @@ fn is_clear<'a>(
 ) -> bool
     ensures { λ r. ⌜ r ≡ blank (drop from (rows (now (ids .entry)) (now (lengths .entry)) (now (highs .entry)) (now (lows .entry)))) ⌝ }
 {
-    are_ids_clear(from, ids)
-        & (are_lengths_clear(from, lengths)
-            & (are_words_clear(from, highs) & are_words_clear(from, lows)))
+    are_ids_clear(from, ids, lengths) & are_words_clear(from, highs, lows)
 }
 
 // Whether a side is sound; where no record is live only that every place is unused is asked.

@@ -4,10 +4,10 @@ ghost use mathlib.Core.Bool.{cond};
 ghost use mathlib.Core.List.{List, []};
 ghost use Prim.Native.Nat.{ℕ};
 ghost use lib.Dec.{leb};
-ghost use lib.ListN.{take};
+ghost use lib.ListN.{take, drop};
 ghost use Rattle.records.specs.Limits.{resting};
 ghost use Rattle.records.specs.Records.{lent, view};
-ghost use Rattle.records.specs.Numbers.{among};
+ghost use Rattle.records.specs.Numbers.{among, allZero};
 ghost use Rattle.records.specs.Resting.{packIds, soundResting, rested};
 use crate::OwnId;
 use crate::Resting;
@@ -25,6 +25,14 @@ pub fn is_resting(count: usize, ids: &[u32; State::RESTING], id: OwnId) -> bool
     among(live(count, ids), ids, id.0)
 }
 
+// Whether the places from `from` on are unused; no lengths stand beside resting ids.
+fn is_clear(from: usize, ids: &[u32; State::RESTING]) -> bool
+    ensures { λ r. ⌜ r ≡ allZero (drop from (now (ids .entry))) ⌝ }
+{
+    let lengths = [0; State::RESTING];
+    are_ids_clear(from, ids, &lengths)
+}
+
 // Whether the resting ids are sound beside the own side, whose ids are lent too; there are fewer of these, so that each of them is looked for.
 pub fn sound<'a>(
     count: usize,
@@ -35,13 +43,13 @@ pub fn sound<'a>(
     ensures { λ r. ⌜ ((lengths highs lows : List ℕ) → r ≡ soundResting (view (lent «own_count» (now («own_ids» .entry)) lengths highs lows)) (record { count = count; ids = now (ids .entry) })) ⌝ }
 {
     if count == 0 {
-        return are_ids_clear(0, ids);
+        return is_clear(0, ids);
     }
     if State::RESTING < count {
         return false;
     }
     each_once(count, ids)
-        & (none_among(live(own_count, own_ids), own_ids, count, ids) & are_ids_clear(count, ids))
+        & (none_among(live(own_count, own_ids), own_ids, count, ids) & is_clear(count, ids))
 }
 
 // How many of so many ids leave when one more enters.

@@ -3,7 +3,7 @@ use native.Mathlib.Omega.{arith}
 use Prim.Native.Nat.{_≤_, _-_}
 use mathlib.Core.Path.{_≡_, refl, sym, _∙_}
 use lib.ListN.{take, drop}
-use Rattle.records.specs.Steps.{noneAmong}
+use Rattle.records.specs.Numbers.{noneAmong}
 use Rattle.records.proofs.Numbers.{none-here, none-next, none-ended}
 use borrow.Author.Needs.{needs}
 use Rattle.records.proofs.fields.none_among.Statement.{statement}

@@ -1,8 +1,9 @@
 -- The ids below the count are those of the live records.
 use native.Mathlib.Omega.{arith}
-use mathlib.Core.Path.{sym, _∙_}
+use mathlib.Core.Path.{sym, ap, _∙_}
 use lib.ListN.{length-take}
-use Rattle.records.proofs.Rows.{member-ids}
+use Rattle.records.specs.Numbers.{among}
+use Rattle.records.proofs.Rows.{ids-of-rows}
 use Rattle.records.proofs.Numbers.{take-live}
 use borrow.Author.Needs.{needs}
 use Rattle.records.proofs.lent.holds.Statement.{statement}
@@ -16,7 +17,7 @@ among-requires c κs =
 returns : tie.Need-returns
 returns c = λ lengths highs lows.
     let live = c .before .before in let b = live .before .before .args in
-    c .among .ensures ∙ rw (live .live .ensures, take-live (b .count) (b .ids .now)) (sym (member-ids (b .id) (b .count) (b .ids .now) lengths highs lows))
+    c .among .ensures ∙ rw (live .live .ensures, take-live (b .count) (b .ids .now)) (ap (among (b .id)) (sym (ids-of-rows (b .count) (b .ids .now) lengths highs lows)))
 
 pub holds-spec : {M : Type 1} → statement M
 holds-spec =

@@ -2,7 +2,7 @@
 use borrow.Author.Needs.{needs}
 use borrow.Author.Tests.{lt-leb, le-leb}
 use mathlib.Core.Path.{refl, _∙_}
-use Rattle.records.proofs.Rows.{distinct-ids}
+use Rattle.records.proofs.Rows.{ids-of-rows}
 use Rattle.records.proofs.lent.sound.Statement.{statement}
 use Rattle.records.proofs.lent.sound.Tie as tie
 
@@ -20,7 +20,7 @@ returns-3 c =
       form .are-formed .ensures (b .ids .now) (search needs),
       c .is-clear2 .ensures,
       le-leb _ _ (if2 .if2 .left),
-      distinct-ids (b .count) (b .ids .now) (b .lengths .now) (b .highs .now) (b .lows .now),
+      ids-of-rows (b .count) (b .ids .now) (b .lengths .now) (b .highs .now) (b .lows .now),
     )
     refl
 

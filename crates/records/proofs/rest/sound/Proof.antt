@@ -6,12 +6,12 @@ use mathlib.Core.Path.{refl, _∙_}
 use lib.ListN.{take, length-take}
 use Rattle.records.proofs.IdLaws.{none-either-way}
 use Rattle.records.proofs.Numbers.{take-live}
-use Rattle.records.proofs.Rows.{live-ids}
+use Rattle.records.proofs.Rows.{ids-of-rows}
 use Rattle.records.proofs.rest.sound.Statement.{statement}
 use Rattle.records.proofs.rest.sound.Tie as tie
 
 returns : tie.Need-returns
-returns c = λ lengths highs lows. c .are-ids-clear .ensures ∙ rw (c .before .before .if1 .taken) refl
+returns c = λ lengths highs lows. c .is-clear .ensures ∙ rw (c .before .if1 .taken) refl
 
 returns-2 : tie.Need-returns-2
 returns-2 c = λ lengths highs lows. simp (lt-leb _ _ (c .if2 .taken))
@@ -23,16 +23,16 @@ none-among-requires c κs =
 
 returns-3 : tie.Need-returns-3
 returns-3 c = λ lengths highs lows.
-    let none = c .before .before in let live = none .before .before .before in let once = live .before .before in let if2 = once .before .before in let b = if2 .before .before .args in
+    let none = c .before in let live = none .before .before .before in let once = live .before .before in let if2 = once .before .before in let b = if2 .before .before .args in
     rw (
       once .each-once .ensures,
       none .none-among .ensures,
       live .live .ensures,
       take-live (b .own-count) (b .own-ids .now),
       none-either-way (take (b .own-count) (b .own-ids .now)) (take (b .count) (b .ids .now)),
-      c .are-ids-clear2 .ensures,
+      c .is-clear2 .ensures,
       le-leb _ _ (if2 .if2 .left),
-      live-ids (take (b .count) (b .ids .now)) (b .own-count) (b .own-ids .now) lengths highs lows,
+      ids-of-rows (b .own-count) (b .own-ids .now) lengths highs lows,
     )
     refl
 
