@@ -64,6 +64,13 @@ def resting_state(ids, own=()):
     return struct.pack(">H", len(own)) + records + bytes(2 + 21 * 32) + struct.pack(">H64i", len(ids), *ids, *[0] * (64 - len(ids)))
 
 
+def kept_state(answers, peer=()):
+    """Local peer records and kept answers, 5,752 octets."""
+    records = b"".join(struct.pack(">iBi12x", number, 0, code) for number, code in peer) + bytes(21 * (32 - len(peer)))
+    store = b"".join(struct.pack(">iH512s", number, len(octets), octets) for number, octets in answers) + bytes(518 * (8 - len(answers)))
+    return bytes(2 + 21 * 32) + struct.pack(">H", len(peer)) + records + bytes(2 + 4 * 64) + struct.pack(">H", len(answers)) + store
+
+
 def element(identifier, contents):
     size = len(contents)
     if size < 0x80:
@@ -102,6 +109,7 @@ P3 = bytes.fromhex("A306020105020101")
 P4 = bytes.fromhex("A203020105")
 ONE = state(own=[(5, 7)])
 ASKED = state(peer=[(5, 7)])
+PROBED = table([(-3, 2, 2, 10, 0), (-2, 2, 0x30, 10, 0), (7, 2, 2, 4, 0)])
 NAME = bytes.fromhex("2B0601")
 NAMED = named_table([NAME], [(0, 2, 2, 2, 4)], [(1, 0, 0)], [(0, 0)])
 NAMES = [bytes([0x2B, i]) + bytes(range(1, 15)) for i in range(128)]
@@ -126,6 +134,20 @@ def cases():
     yield case("64 resting ids: invoke", T, rested, frame(INVOKE, b"\x02\x01\x03", 64, 6, 7))
     yield case("64 resting ids: receive a result", T, rested, frame(RECEIVE, P2, 11))
     yield case("64 resting ids: forget", T, rested, frame(FORGET, number=5))
+    def answered(number, octets=1):
+        """The answer of invocation number with a value of so many octets: with 496 the answer is as long as one kept can be."""
+        return element(0xA2, element(2, bytes([number])) + element(0x30, b"\x02\x01\x07" + element(4, bytes(octets))))
+    held = [(number, answered(number)) for number in range(1, 9)]
+    largest = [(number, answered(number, 494)) for number in range(1, 9)]
+    assert len(largest[0][1]) == 512
+    probe = bytes.fromhex("A10D 02010C 0201FE 3005A003 020108".replace(" ", ""))
+    yield case("probe of a running invocation", PROBED, kept_state([], peer=[(8, 7)]), frame(RECEIVE, probe, 528))
+    yield case("probe that finds its answer, 8 short ones kept", PROBED, kept_state(held), frame(RECEIVE, probe, 528))
+    yield case("probe that finds its answer, 8 of 512 octets kept", PROBED, kept_state(largest), frame(RECEIVE, probe, 528))
+    yield case("acknowledge of the oldest, 8 of 512 octets kept", PROBED, kept_state(largest),
+               frame(RECEIVE, bytes.fromhex("A109 02010C 0201FD 020101".replace(" ", "")), 528))
+    yield case("result of 512 octets, 8 of 512 octets kept", PROBED, kept_state(largest, peer=[(9, 7)]),
+               frame(RESULT, element(4, bytes(494)), 4096, 9))
     records = [(i, i - 32) for i in range(32)]
     answer = bytes.fromhex("A20B02011F30060201FF02010C")
     yield case("32 + 32 records, full table: receive a result", FULL, state(own=records, peer=records), frame(RECEIVE, answer, 11))

@@ -1,6 +1,7 @@
 // The four APDUs: what a received one says, and the octets of one to send.
 pub mod encode;
 mod field;
+pub mod inside;
 pub mod parse;
 mod reject;
 

@@ -125,6 +125,7 @@ fn place_words(x: &[u8], why: Refusal, place: usize) {
 pub(crate) fn reception_words(x: &[u8], reception: Reception, place: usize) {
     match reception {
         Reception::Indicated(said) => indication_words(x, said),
+        Reception::Answered => say(b"an invocation that the library answers itself"),
         Reception::Refused(why) => {
             refusal_words(why);
             place_words(x, why, place);

@@ -5,6 +5,7 @@ use crate::words::say;
 use apdu::Body;
 use apdu::Span;
 use apdu::parse::octets_of;
+use base::octets::octet;
 use ber::header::Header;
 use ber::header::header_of;
 use ber::integer::Integer;
@@ -12,6 +13,7 @@ use ber::integer::integer_of;
 use codes::Code;
 use protocol::Indication;
 use protocol::Reception;
+use text::out::name;
 
 // Readings are hundredths of a mg/l; the points without one are counted by their reason.
 pub(crate) struct Day {
@@ -68,6 +70,33 @@ fn with_value(mut day: Day, element: &[u8]) -> Day {
     with_unknown(day)
 }
 
+// Nothing is stored: the number in the value picks the words.
+fn said_of_answer(words: &[u8], element: &[u8]) {
+    say(b"nothing: ");
+    if let Header::At { start, .. } = header_of(element) {
+        name(1, words, octet(element, start) as usize);
+    }
+}
+
+// Operations -2 and -3 say what became of an invocation or of its answer; the result of another operation is a reading.
+fn with_result(day: Day, operation: Code, element: &[u8]) -> Day {
+    if operation.same(Code::Local(0xFFFF_FFFE)) {
+        said_of_answer(
+            b"the invocation is not answered yet|the invocation is answered, and its answer follows|the controller has no answer to it",
+            element,
+        );
+        return day;
+    }
+    if operation.same(Code::Local(0xFFFF_FFFD)) {
+        said_of_answer(
+            b"the controller keeps the answer no longer|the controller kept no such answer",
+            element,
+        );
+        return day;
+    }
+    with_value(day, element)
+}
+
 // The record after an answer: a refused one changes nothing.
 pub(crate) fn recorded(mut day: Day, x: &[u8], reception: Reception) -> Day {
     match reception {
@@ -75,9 +104,17 @@ pub(crate) fn recorded(mut day: Day, x: &[u8], reception: Reception) -> Day {
             say(b"nothing, since the answer is refused");
             day
         }
+        Reception::Answered => {
+            say(b"nothing, since the library answered");
+            day
+        }
         Reception::Indicated(said) => match said {
-            Indication::Result { body, .. } => match body {
-                Body::Of { value, .. } => with_value(day, octets_of(x, value)),
+            Indication::Result {
+                body,
+                operation,
+                ..
+            } => match body {
+                Body::Of { value, .. } => with_result(day, operation, octets_of(x, value)),
                 Body::Absent => {
                     say(b"no reading: a result without a value is neither a reading nor an error");
                     day.empty = plus(day.empty, 1);

@@ -1,4 +1,4 @@
-// A kiosk and a controller, each with its own table and state, and the channel between them.
+// A kiosk and a controller, each with its own table, state and store, and the channel between them.
 use crate::answer::reception_words;
 use crate::answer::refusal_words;
 use crate::day::Day;
@@ -9,6 +9,10 @@ use crate::words::say;
 use apdu::PeerLink;
 use apdu::Span;
 use apdu::parse::octets_of;
+use base::octets::between;
+use ber::header::Header;
+use ber::header::header_of;
+use ber::output::put_octets;
 use codes::Code;
 use codes::Name;
 use protocol::Invocation;
@@ -42,13 +46,17 @@ const NAMED: [u8; 71] = *b"\
     \x00\x00\x00\x00\x00\x01\x00\x00\
     \x03\x2b\x06\x01\x00\x00\x00\x00\x00\x00\x00\x00\x00\x00\x00\x00\x00";
 
+// What the channel took: one APDU or two, of which the span is the next to arrive.
 struct Apdu {
     octets: [u8; 32],
     span: Span,
+    end: usize,
 }
 
-// The last APDU that the channel took towards each end, the state of each, and the kiosk's record.
+// What the channel took last towards each end, the state and the store of each, and the kiosk's record.
 pub(crate) struct Site {
+    kiosk_store: [u8; State::STORE_OCTETS],
+    controller_store: [u8; State::STORE_OCTETS],
     to_kiosk: Apdu,
     to_controller: Apdu,
     kiosk: State,
@@ -60,8 +68,11 @@ pub(crate) fn opened() -> Site {
     let none = Apdu {
         octets: [0; 32],
         span: Span { at: 0, end: 0 },
+        end: 0,
     };
     Site {
+        kiosk_store: [0; State::STORE_OCTETS],
+        controller_store: [0; State::STORE_OCTETS],
         to_kiosk: none,
         to_controller: none,
         kiosk: State::fresh(),
@@ -70,23 +81,53 @@ pub(crate) fn opened() -> Site {
     }
 }
 
+fn sent_line(words: &[u8], x: &[u8]) {
+    if x.len() == 0 {
+        return;
+    }
+    say(words);
+    octets(1, x);
+    say(b"\n");
+}
+
+// Where the first of the APDUs ends that a call wrote; what another library wrote is one APDU.
+fn first_end(x: &[u8]) -> usize {
+    match header_of(x) {
+        Header::At { end, .. } => end,
+        _ => x.len(),
+    }
+}
+
 // What the channel holds after a call: the octets that the call wrote, or the same as before.
-fn sent(words: &[u8], before: Apdu, out: [u8; 32], written: usize) -> Apdu {
+fn sent(words: &[u8], before: Apdu, out: &[u8], written: usize) -> Apdu {
     if written == 0 {
         return before;
     }
-    let span = Span {
-        at: 0,
+    let x = between(out, 0, written);
+    let end = first_end(x);
+    sent_line(words, between(x, 0, end));
+    sent_line(words, between(x, end, written));
+    let mut octets = [0u8; 32];
+    put_octets(&mut octets, 0, x);
+    Apdu {
+        octets,
+        span: Span { at: 0, end },
         end: written,
-    };
-    say(words);
-    octets(1, octets_of(&out, span));
-    say(b"\n");
-    Apdu { octets: out, span }
+    }
+}
+
+// What arrives next: the second of two APDUs, or else the same once more.
+fn arrived(mut apdu: Apdu) -> Apdu {
+    let at = apdu.span.end;
+    if at < apdu.end {
+        let span = Span { at, end: apdu.end };
+        apdu.span = span;
+    }
+    apdu
 }
 
 // The same after a request, which sends nothing where it is refused.
-fn requested(words: &[u8], before: Apdu, out: [u8; 32], r: Requested) -> Apdu {
+fn requested(words: &[u8], before: Apdu, out: &[u8], r: Requested) -> Apdu {
     let outcome = r.outcome;
     match outcome {
         Outcome::Accepted => sent(words, before, out, r.written),
@@ -100,31 +141,35 @@ fn requested(words: &[u8], before: Apdu, out: [u8; 32], r: Requested) -> Apdu {
     }
 }
 
-// The kiosk invokes an operation with probe 3.
-fn invoke(mut site: Site, table: &[u8], id: u32, code: Code) -> Site {
+// The kiosk invokes an operation.
+pub(crate) fn invoke(mut site: Site, table: &[u8], id: u32, code: Code, argument: &[u8]) -> Site {
     let mut out = [0u8; 32];
     let state = site.kiosk;
+    let store = site.kiosk_store;
     let before = site.to_controller;
-    let probe = b"\x02\x01\x03";
     let r = rose::invoke(
         state,
+        &store,
         table,
         OwnId(id),
         code,
         PeerLink::Absent,
-        probe,
+        argument,
         &mut out,
     );
     let next = r.state;
-    let apdu = requested(b"   kiosk sends      ", before, out, r);
+    let apdu = requested(b"   kiosk sends      ", before, &out, r);
     site.kiosk = next;
     site.to_controller = apdu;
     site
 }
 
+// The argument that names probe 3.
+pub(crate) const PROBE: [u8; 3] = *b"\x02\x01\x03";
+
 // The kiosk invokes operation 7.
 pub(crate) fn ask_alone(site: Site, id: u32) -> Site {
-    invoke(site, &KIOSK, id, Code::Local(7))
+    invoke(site, &KIOSK, id, Code::Local(7), &PROBE)
 }
 
 // The same, and the controller receives it.
@@ -139,48 +184,56 @@ fn named() -> Code {
 
 // The kiosk invokes it with its first table, which lacks it.
 pub(crate) fn ask_unlisted(site: Site, id: u32) -> Site {
-    invoke(site, &KIOSK, id, named())
+    invoke(site, &KIOSK, id, named(), &PROBE)
 }
 
 pub(crate) fn ask_by_name(site: Site, id: u32) -> Site {
-    invoke(site, &NAMED, id, named())
+    invoke(site, &NAMED, id, named(), &PROBE)
 }
 
-// What the controller's request left: its new state, and the answer on the channel.
-fn answered(mut site: Site, r: Requested, out: [u8; 32]) -> Site {
+// What the controller's request left: its new state and store, and the answer on the channel.
+fn answered(mut site: Site, r: Requested, store: [u8; State::STORE_OCTETS], out: &[u8]) -> Site {
     let next = r.state;
     let before = site.to_kiosk;
     let apdu = requested(b"   controller sends ", before, out, r);
     site.controller = next;
+    site.controller_store = store;
     site.to_kiosk = apdu;
     site
 }
 
-pub(crate) fn result(site: Site, id: u32, value: &[u8]) -> Site {
+pub(crate) fn result_with(site: Site, table: &[u8], id: u32, value: &[u8]) -> Site {
     let mut out = [0u8; 32];
     let state = site.controller;
-    let r = rose::result(state, &CONTROLLER, PeerId(id), value, &mut out);
-    answered(site, r, out)
+    let mut store = site.controller_store;
+    let r = rose::result(state, &mut store, table, PeerId(id), value, &mut out);
+    answered(site, r, store, &out)
+}
+
+pub(crate) fn result(site: Site, id: u32, value: &[u8]) -> Site {
+    result_with(site, &CONTROLLER, id, value)
 }
 
 pub(crate) fn error(site: Site, id: u32, code: u32) -> Site {
     let mut out = [0u8; 32];
     let state = site.controller;
+    let mut store = site.controller_store;
     let r = rose::error(
         state,
+        &mut store,
         &CONTROLLER,
         PeerId(id),
         Code::Local(code),
         b"",
         &mut out,
     );
-    answered(site, r, out)
+    answered(site, r, store, &out)
 }
 
 // An answer that another library wrote, at the front of these octets.
 pub(crate) fn other_make(mut site: Site, apdu: [u8; 32], count: usize) -> Site {
     let before = site.to_kiosk;
-    let answer = sent(b"   another sends    ", before, apdu, count);
+    let answer = sent(b"   another sends    ", before, &apdu, count);
     site.to_kiosk = answer;
     site
 }
@@ -188,7 +241,8 @@ pub(crate) fn other_make(mut site: Site, apdu: [u8; 32], count: usize) -> Site {
 // The kiosk gives an invocation up.
 pub(crate) fn forget(mut site: Site, id: u32) -> Site {
     let state = site.kiosk;
-    let r = rose::forget(state, &KIOSK, Invocation::Own(OwnId(id)));
+    let store = site.kiosk_store;
+    let r = rose::forget(state, &store, &KIOSK, Invocation::Own(OwnId(id)));
     let next = r.state;
     let outcome = r.outcome;
     match outcome {
@@ -204,16 +258,20 @@ pub(crate) fn forget(mut site: Site, id: u32) -> Site {
     site
 }
 
+// The octets that receive needs where the table has operation -2; without it fewer do.
+const ROOM: usize = 528;
+
 // The kiosk receives what is on the channel, and records what the library says of it.
-fn read_with(mut site: Site, table: &[u8]) -> Site {
-    let mut out = [0u8; 32];
+pub(crate) fn kiosk_reads_with(mut site: Site, table: &[u8]) -> Site {
+    let mut out = [0u8; ROOM];
     let state = site.kiosk;
+    let mut store = site.kiosk_store;
     let day = site.day;
     let before = site.to_controller;
     let apdu = site.to_kiosk;
-    let arrived = apdu.octets;
-    let x = octets_of(&arrived, apdu.span);
-    let r = rose::receive(state, table, x, &mut out);
+    let all = apdu.octets;
+    let x = octets_of(&all, apdu.span);
+    let r = rose::receive(state, &mut store, table, x, &mut out);
     let next = r.state;
     let reception = r.reception;
     say(b"   kiosk reads       ");
@@ -221,37 +279,45 @@ fn read_with(mut site: Site, table: &[u8]) -> Site {
     say(b"\n   kiosk records     ");
     let day = recorded(day, x, reception);
     say(b"\n");
-    let answer = sent(b"   kiosk sends      ", before, out, r.written);
+    let answer = sent(b"   kiosk sends      ", before, &out, r.written);
     site.kiosk = next;
+    site.kiosk_store = store;
     site.day = day;
+    site.to_kiosk = arrived(apdu);
     site.to_controller = answer;
     site
 }
 
 pub(crate) fn kiosk_reads(site: Site) -> Site {
-    read_with(site, &KIOSK)
+    kiosk_reads_with(site, &KIOSK)
 }
 
 // The same with the table of edition 2.
 pub(crate) fn kiosk_reads_by_name(site: Site) -> Site {
-    read_with(site, &NAMED)
+    kiosk_reads_with(site, &NAMED)
 }
 
-pub(crate) fn controller_reads(mut site: Site) -> Site {
-    let mut out = [0u8; 32];
+pub(crate) fn controller_reads_with(mut site: Site, table: &[u8]) -> Site {
+    let mut out = [0u8; ROOM];
     let state = site.controller;
+    let mut store = site.controller_store;
     let before = site.to_kiosk;
     let apdu = site.to_controller;
-    let arrived = apdu.octets;
-    let x = octets_of(&arrived, apdu.span);
-    let r = rose::receive(state, &CONTROLLER, x, &mut out);
+    let all = apdu.octets;
+    let x = octets_of(&all, apdu.span);
+    let r = rose::receive(state, &mut store, table, x, &mut out);
     let next = r.state;
     let reception = r.reception;
     say(b"   controller reads  ");
     reception_words(x, reception, r.place);
     say(b"\n");
-    let answer = sent(b"   controller sends ", before, out, r.written);
+    let answer = sent(b"   controller sends ", before, &out, r.written);
     site.controller = next;
+    site.controller_store = store;
     site.to_kiosk = answer;
     site
+}
+
+pub(crate) fn controller_reads(site: Site) -> Site {
+    controller_reads_with(site, &CONTROLLER)
 }

@@ -2,6 +2,7 @@
 mod answer;
 mod day;
 mod ends;
+mod fetching;
 mod words;
 
 use day::close;
@@ -19,6 +20,7 @@ use ends::kiosk_reads_by_name;
 use ends::opened;
 use ends::other_make;
 use ends::result;
+use fetching::fetched;
 use words::say;
 
 // The three answers of a probe.
@@ -156,6 +158,7 @@ fn main() {
     site = indefinite(site);
     site = at_fault(site);
     site = named(site);
+    site = fetched(site);
     let day = site.day;
     close(day);
 }

@@ -3,6 +3,7 @@ use base::octets::between;
 use codes::Code;
 use codes::Name;
 use text::out::decimal;
+use text::out::signed_number;
 use text::out::words;
 
 pub(crate) fn say(s: &[u8]) {
@@ -27,7 +28,10 @@ fn name_words(name: Name) {
 // A code, behind some words.
 pub(crate) fn code_words(s: &[u8], code: Code) {
     match code {
-        Code::Local(n) => number(s, n),
+        Code::Local(n) => {
+            words(1, s);
+            signed_number(1, n);
+        }
         Code::Global(name) => {
             words(1, s);
             name_words(name);

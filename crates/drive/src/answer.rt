@@ -184,6 +184,7 @@ fn indication_line(line: &mut [u8], x: &[u8], said: Indication) -> usize {
 pub(crate) fn reception_line(line: &mut [u8], x: &[u8], reception: Reception) -> usize {
     match reception {
         Reception::Indicated(said) => indication_line(line, x, said),
+        Reception::Answered => words(line, 0, b"answered"),
         Reception::Refused(why) => refusal_line(line, why),
     }
 }

@@ -10,6 +10,7 @@ use apdu::PeerLink;
 use apdu::Value;
 use base::octets::between;
 use base::octets::octet;
+use ber::output::put_octets;
 use codes::Code;
 use codes::Name;
 use protocol::Invocation;
@@ -79,22 +80,55 @@ fn lent_again(written: usize, table: &[u8]) -> &[u8] {
     table
 }
 
-fn received(times: u64, state: State, table: &[u8], x: &[u8], out: &mut [u8]) -> Received {
+// The store as it was, where a call changed it: there are more answers then or fewer, or the last of eight is another.
+fn restore(was: State, next: State, before: &[u8], store: &mut [u8]) {
+    let last = State::ANSWERS - 1;
+    let kept = was.kept;
+    let then = next.kept;
+    if kept.count != then.count || kept.ids[last] != then.ids[last] {
+        put_octets(store, 0, before);
+    }
+}
+
+// A copy of the store.
+fn copied(store: &[u8]) -> [u8; State::STORE_OCTETS] {
+    let mut copy = [0u8; State::STORE_OCTETS];
+    put_octets(&mut copy, 0, store);
+    copy
+}
+
+fn received(
+    times: u64,
+    state: State,
+    store: &mut [u8],
+    table: &[u8],
+    x: &[u8],
+    out: &mut [u8],
+) -> Received {
+    let before = copied(store);
     let mut left = times;
     let mut lent = table;
     loop {
-        let r = rose::receive(state, lent, x, out);
+        let r = rose::receive(state, store, lent, x, out);
         if left < 2 {
             return r;
         }
         left -= 1;
+        restore(state, r.state, &before, store);
         lent = lent_again(r.written, table);
     }
 }
 
-fn receive(asked: Asked, state: State, table: &[u8], x: &[u8], out: &mut [u8]) -> State {
+fn receive(
+    asked: Asked,
+    state: State,
+    store: &mut [u8],
+    table: &[u8],
+    x: &[u8],
+    out: &mut [u8],
+) -> State {
     let mut line = line_buffer();
-    let r = received(asked.times, state, table, x, out);
+    let r = received(asked.times, state, store, table, x, out);
     let reception = r.reception;
     let next = r.state;
     let at = reception_line(&mut line, x, reception);
@@ -103,6 +137,7 @@ fn receive(asked: Asked, state: State, table: &[u8], x: &[u8], out: &mut [u8]) -
         &mut line,
         at,
         next,
+        store,
         out,
         r.written,
         r.place,
@@ -116,24 +151,25 @@ fn request(
     f: Frame,
     code: Code,
     state: State,
+    store: &mut [u8],
     table: &[u8],
     value: &[u8],
     out: &mut [u8],
 ) -> Requested {
     let kind = f.kind;
     if kind == 3 {
-        return rose::invoke(state, table, OwnId(f.id), code, link(f), value, out);
+        return rose::invoke(state, store, table, OwnId(f.id), code, link(f), value, out);
     }
     if kind == 4 {
-        return rose::result(state, table, PeerId(f.id), value, out);
+        return rose::result(state, store, table, PeerId(f.id), value, out);
     }
     if kind == 5 {
-        return rose::error(state, table, PeerId(f.id), code, value, out);
+        return rose::error(state, store, table, PeerId(f.id), code, value, out);
     }
     if kind == 6 {
-        return rose::reject(state, table, PeerId(f.id), f.flag, out);
+        return rose::reject(state, store, table, PeerId(f.id), f.flag, out);
     }
-    rose::forget(state, table, invocation(f))
+    rose::forget(state, store, table, invocation(f))
 }
 
 fn requested(
@@ -141,18 +177,21 @@ fn requested(
     f: Frame,
     code: Code,
     state: State,
+    store: &mut [u8],
     table: &[u8],
     value: &[u8],
     out: &mut [u8],
 ) -> Requested {
+    let before = copied(store);
     let mut left = times;
     let mut lent = table;
     loop {
-        let r = request(f, code, state, lent, value, out);
+        let r = request(f, code, state, store, lent, value, out);
         if left < 2 {
             return r;
         }
         left -= 1;
+        restore(state, r.state, &before, store);
         lent = lent_again(r.written, table);
     }
 }
@@ -161,6 +200,7 @@ fn request_or_forget(
     asked: Asked,
     f: Frame,
     state: State,
+    store: &mut [u8],
     table: &[u8],
     payload: &[u8],
     out: &mut [u8],
@@ -168,7 +208,7 @@ fn request_or_forget(
     let mut line = line_buffer();
     let code = code_of(f, payload);
     let value = value_given(f, payload);
-    let r = requested(asked.times, f, code, state, table, value, out);
+    let r = requested(asked.times, f, code, state, store, table, value, out);
     let outcome = r.outcome;
     let next = r.state;
     let at = outcome_line(&mut line, f.kind == 7, outcome);
@@ -176,6 +216,7 @@ fn request_or_forget(
         &mut line,
         at,
         next,
+        store,
         out,
         r.written,
         r.place,
@@ -190,13 +231,14 @@ pub(crate) fn call(
     asked: Asked,
     f: Frame,
     state: State,
+    store: &mut [u8],
     table: &[u8],
     payload: &[u8],
     out: &mut [u8],
 ) -> State {
     fill(out);
     if f.kind == 2 {
-        return receive(asked, state, table, payload, out);
+        return receive(asked, state, store, table, payload, out);
     }
-    request_or_forget(asked, f, state, table, payload, out)
+    request_or_forget(asked, f, state, store, table, payload, out)
 }

@@ -1,6 +1,8 @@
-// What stands behind the answer on a line: the records then, the lent output, the place of a fault, the ids that rest and, where asked, the value's place.
+// What stands behind the answer on a line: the records then, the lent output, the place of a fault, the ids that rest, the kept answers and, where asked, the
+// value's place.
 ghost use mathlib.Core.Path.{_≡_};
 ghost use lib.ListN.{length};
+use crate::kept::kept_line;
 use crate::output::is_spoiled;
 use crate::resting::resting_line;
 use crate::side::side_line;
@@ -74,7 +76,7 @@ fn indicated_value(said: Indication) -> Value {
 pub(crate) fn value_of(reception: Reception) -> Value {
     match reception {
         Reception::Indicated(said) => indicated_value(said),
-        Reception::Refused(_) => Value::Absent,
+        _ => Value::Absent,
     }
 }
 
@@ -96,6 +98,18 @@ fn rest_line(line: &mut [u8], at: usize, state: State) -> usize {
     resting_line(line, a, state.resting.count, &state.resting.ids)
 }
 
+fn answers_line(line: &mut [u8], at: usize, state: State, store: &[u8]) -> usize {
+    let a = words(line, at, b" kept ");
+    kept_line(
+        line,
+        a,
+        state.kept.count,
+        &state.kept.ids,
+        &state.kept.lengths,
+        store,
+    )
+}
+
 // The value's place in the received octets, where the run shows places.
 fn place_line(line: &mut [u8], at: usize, is_placed: bool, value: Value) -> usize {
     if !is_placed {
@@ -108,7 +122,7 @@ fn place_line(line: &mut [u8], at: usize, is_placed: bool, value: Value) -> usiz
     }
 }
 
-// More octets than a line has: those of a value and of what is written, in hexadecimal, and the places of both sides.
+// More octets than a line has: those of a value and of what is written, in hexadecimal, and those of the state.
 pub(crate) fn line_buffer() -> [u8; 300000]
     ensures { λ r. ⌜ 300000 ≡ length r ⌝ }
 {
@@ -120,6 +134,7 @@ pub(crate) fn emit(
     line: &mut [u8],
     at: usize,
     state: State,
+    store: &[u8],
     lent: &[u8],
     written: usize,
     place: usize,
@@ -130,7 +145,8 @@ pub(crate) fn emit(
     let b = output_line(line, a, lent, written);
     let c = fault_line(line, b, place);
     let d = rest_line(line, c, state);
-    let e = place_line(line, d, is_placed, value);
-    let n = put(line, e, 10);
+    let e = answers_line(line, d, state, store);
+    let f = place_line(line, e, is_placed, value);
+    let n = put(line, f, 10);
     print(STDOUT_FILENO, line, n);
 }

@@ -15,12 +15,20 @@ use protocol::Received;
 use protocol::Reception;
 use protocol::Requested;
 use records::OwnId;
+use records::PeerId;
 use records::State;
 
 // Asks for a reading of a probe: keep the state, and send the first `written` octets of `out`; a refused request wrote none.
-pub(crate) fn ask(state: State, id: OwnId, probe: &[u8], out: &mut [u8]) -> Requested {
+pub(crate) fn ask(
+    state: State,
+    store: &[u8],
+    id: OwnId,
+    probe: &[u8],
+    out: &mut [u8],
+) -> Requested {
     rose::invoke(
         state,
+        store,
         &TABLE,
         id,
         Code::Local(7),
@@ -40,13 +48,38 @@ pub(crate) fn number_of(octets: &[u8], value: Span) -> Integer {
     integer_of(contents)
 }
 
+// Rejects an invocation that was received, and hands back the state and the octets then.
+fn rejected(
+    r: Received,
+    store: &[u8; State::STORE_OCTETS],
+    id: PeerId,
+    out: &mut [u8],
+) -> Received {
+    let reception = r.reception;
+    let a = rose::reject(r.state, store, &TABLE, id, 3, out);
+    let state = a.state;
+    Received {
+        state,
+        place: 0,
+        reception,
+        written: a.written,
+    }
+}
+
 // Takes received octets: keep the state, and send the first `written` octets of `out`.
-pub(crate) fn receive(state: State, octets: &[u8], out: &mut [u8]) -> Received {
-    let r = rose::receive(state, &TABLE, octets, out);
+pub(crate) fn receive(
+    state: State,
+    store: &mut [u8; State::STORE_OCTETS],
+    octets: &[u8],
+    out: &mut [u8],
+) -> Received {
+    let r = rose::receive(state, store, &TABLE, octets, out);
     let reception = r.reception;
     match reception {
         // Of an 18 the Reject to send is written; of another refusal nothing is.
         Reception::Refused(why) => show(b"a refusal, ", why.number() as u32),
+        // A probe or an acknowledge, if the table has them: what to send is written.
+        Reception::Answered => {}
         Reception::Indicated(said) => match said {
             // `id` is the invocation that is answered, and is over now.
             Indication::Result { id, body, .. } => match body {
@@ -64,18 +97,7 @@ pub(crate) fn receive(state: State, octets: &[u8], out: &mut [u8]) -> Received {
             Indication::ResultRejected { .. } => {}
             Indication::ErrorRejected { .. } => {}
             // The kiosk has no readings to give: it rejects, or the invocation would stay live.
-            Indication::Invoke { id, .. } => {
-                let state = r.state;
-                let a = rose::reject(state, &TABLE, id, 3, out);
-                let state = a.state;
-                let written = a.written;
-                return Received {
-                    state,
-                    place: 0,
-                    reception,
-                    written,
-                };
-            }
+            Indication::Invoke { id, .. } => return rejected(r, store, id, out),
         },
     }
     r

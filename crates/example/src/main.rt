@@ -14,9 +14,12 @@ pub(crate) const TABLE: [u8; 34] = *b"\
     \x00\x00\x00\x01\x00\x00\
     \x00\x00\x00\x00";
 
+// The state of each end, and the store of the answers that it keeps.
 struct Ends {
     kiosk: State,
+    kiosk_store: [u8; State::STORE_OCTETS],
     controller: State,
+    controller_store: [u8; State::STORE_OCTETS],
 }
 
 // An end that wrote no octets sends nothing.
@@ -32,49 +35,56 @@ fn print_octets(what: &[u8], octets: &[u8]) {
 }
 
 // The kiosk receives octets, and sends what it wrote then, as the Reject of an 18.
-fn delivered(state: State, octets: &[u8]) -> State {
+fn delivered(mut ends: Ends, octets: &[u8]) -> Ends {
     let mut out = [0u8; 32];
-    let r = kiosk::receive(state, octets, &mut out);
+    let mut store = ends.kiosk_store;
+    let r = kiosk::receive(ends.kiosk, &mut store, octets, &mut out);
     let state = r.state;
     let end = r.written;
     print_octets(b"kiosk sends", octets_of(&out, Span { at: 0, end }));
-    state
+    ends.kiosk = state;
+    ends.kiosk_store = store;
+    ends
 }
 
 // The kiosk asks for a reading of a probe, and receives what the controller answers.
-fn asked(ends: Ends, id: OwnId, probe: &[u8]) -> Ends {
+fn asked(mut ends: Ends, id: OwnId, probe: &[u8]) -> Ends {
     let mut request = [0u8; 32];
     let mut answer = [0u8; 32];
-    let kiosk = ends.kiosk;
-    let controller = ends.controller;
-    let r = kiosk::ask(kiosk, id, probe, &mut request);
-    let kiosk = r.state;
+    let store = ends.kiosk_store;
+    let r = kiosk::ask(ends.kiosk, &store, id, probe, &mut request);
+    let state = r.state;
     let end = r.written;
+    ends.kiosk = state;
     if end == 0 {
-        return Ends { kiosk, controller };
+        return ends;
     }
     let sent = octets_of(&request, Span { at: 0, end });
     print_octets(b"kiosk asks ", sent);
-    let r = controller::receive(controller, sent, &mut answer);
-    let controller = r.state;
+    let mut store = ends.controller_store;
+    let r = controller::receive(ends.controller, &mut store, sent, &mut answer);
+    let state = r.state;
     let end = r.written;
+    ends.controller = state;
+    ends.controller_store = store;
     if end == 0 {
-        return Ends { kiosk, controller };
+        return ends;
     }
-    let kiosk = delivered(kiosk, octets_of(&answer, Span { at: 0, end }));
-    Ends { kiosk, controller }
+    delivered(ends, octets_of(&answer, Span { at: 0, end }))
 }
 
 fn main() {
-    let kiosk = State::fresh();
-    let controller = State::fresh();
-    let mut ends = Ends { kiosk, controller };
+    let mut ends = Ends {
+        kiosk: State::fresh(),
+        kiosk_store: [0; State::STORE_OCTETS],
+        controller: State::fresh(),
+        controller_store: [0; State::STORE_OCTETS],
+    };
     ends = asked(ends, OwnId(1), b"\x02\x01\x01");
     ends = asked(ends, OwnId(2), b"\x02\x01\x02");
     ends = asked(ends, OwnId(3), b"\x02\x01\x03");
     // Ids and codes are the bits of signed numbers: this one is -1.
     ends = asked(ends, OwnId(0xFFFF_FFFF), b"\x02\x01\x04");
     // An answer to invocation 1 once more: it is refused with 18, since that invocation is over.
-    let kiosk = ends.kiosk;
-    delivered(kiosk, b"\xa2\x03\x02\x01\x01");
+    delivered(ends, b"\xa2\x03\x02\x01\x01");
 }

@@ -1,6 +1,10 @@
 // The rule that an entry breaks, in words.
 use crate::entry::name_digits;
 use crate::entry::part_name;
+use crate::service::no_acknowledge;
+use crate::service::service_argument;
+use crate::service::service_class;
+use crate::service::service_result;
 use codes::Form;
 use codes::Name;
 use optable::Breach;
@@ -183,6 +187,10 @@ pub(crate) fn breach_words(fd: i32, table: &[u8], part: Part, i: u16, breach: Br
         Breach::ParameterFlag => flag_breach(fd, b"parameter"),
         Breach::ParameterType => { type_breach(fd, b"parameter", error_at(table, i).parameter()) }
         Breach::NameIndex => name_index_breach(fd, table, part, i),
+        Breach::ServiceClass => service_class(fd, table, i),
+        Breach::ServiceArgument => service_argument(fd, table, i),
+        Breach::ServiceResult => service_result(fd, table, i),
+        Breach::NoAcknowledge => no_acknowledge(fd),
         Breach::FirstIndex => first_breach(fd, table, part, i),
         Breach::SecondIndex => second_breach(fd, table, part, i),
         Breach::PairClass => pair_class_breach(fd, table, part, i),

@@ -1,8 +1,9 @@
-// The operation table: whether octets are a valid one, and what it says of a code: document 01, 'Operation table'; document 02, Five.
+// The operation table: whether octets are a valid one, and what it says of a code: document 01, 'Operation table'; document 02, Five and Seven.
 ghost use mathlib.Core.Path.{_≡_};
 ghost use Rattle.optable.specs.Validity.{valid};
 ghost use Rattle.optable.specs.Fault.{firstFault};
-ghost use Rattle.optable.specs.Lookup.{operationIn, idempotentIn, errorIn, paired, childOf, hasChild, CodeAnswer, PairAnswer};
+ghost use Rattle.optable.specs.Service.{serviceOf};
+ghost use Rattle.optable.specs.Lookup.{operationIn, idempotentIn, errorIn, paired, childOf, hasChild, CodeAnswer, PairAnswer, RoomAnswer};
 ghost use Rattle.optable.specs.Extension.{extension, ExtendsAnswer};
 ghost use Rattle.base.specs.Lists.{nonEmpty};
 ghost use Rattle.optable.specs.Value.{valueRight};
@@ -15,6 +16,7 @@ mod lookup;
 mod names;
 pub mod places;
 pub mod read;
+mod services;
 mod validity;
 
 use codes::Code;
@@ -30,6 +32,8 @@ use places::is_child_at;
 use places::is_paired_at;
 use places::operation_in;
 use places::operation_place;
+use services::ACKNOWLEDGE;
+use services::PROBE;
 use validity::layout_fault;
 use validity::part_fault;
 
@@ -93,6 +97,14 @@ pub enum Breach {
     ParameterType,
     // The index that a code is, is that of a name.
     NameIndex,
+    // Probe and acknowledge have class 1 or 2.
+    ServiceClass,
+    // Probe has argument type 30 hexadecimal and acknowledge 02, not optional.
+    ServiceArgument,
+    // Both have result type 0A hexadecimal, not optional.
+    ServiceResult,
+    // A table with probe has acknowledge.
+    NoAcknowledge,
     // The first index is that of an operation.
     FirstIndex,
     // The second index is that of an error, or of a child operation.
@@ -105,6 +117,13 @@ pub enum Breach {
     Order,
     // Names are all different.
     Repeated,
+}
+
+// Which of the two operations that receive answers itself a code is of, if any.
+pub enum Service {
+    Probe,
+    Acknowledge,
+    Ordinary,
 }
 
 // Whether a table extends another, or the first thing against it: an entry of the old table that the new one has not.
@@ -175,6 +194,32 @@ pub fn is_idempotent(table: &[u8], code: Code) -> bool
     ensures { λ r. ⌜ CodeAnswer (now (table .entry)) Part.Operations code (idempotentIn (now (table .entry))) r ⌝ }
 {
     idempotent_in(table, operation_place(table, code))
+}
+
+// Which of the operations that receive answers itself a code is of, if any.
+pub fn service_of(code: Code) -> Service
+    ensures { λ r. ⌜ r ≡ serviceOf code ⌝ }
+{
+    if code.same(Code::Local(PROBE)) {
+        return Service::Probe;
+    }
+    if code.same(Code::Local(ACKNOWLEDGE)) {
+        return Service::Acknowledge;
+    }
+    Service::Ordinary
+}
+
+// How many octets of output receive needs.
+pub fn room_needed(table: &[u8]) -> usize
+    ensures { λ r. ⌜ RoomAnswer (now (table .entry)) r ⌝ }
+{
+    if operation_of(table, Code::Local(PROBE)).is_listed() {
+        return 528;
+    }
+    if operation_of(table, Code::Local(ACKNOWLEDGE)).is_listed() {
+        return 16;
+    }
+    11
 }
 
 pub fn error_of(table: &[u8], code: Code) -> Error

@@ -15,7 +15,7 @@ use Rattle.base.specs.Octets.{part}
 use Rattle.codes.specs.declared.Code.{Code}
 use Rattle.records.specs.declared.OwnId.{OwnId}
 use Rattle.records.specs.declared.PeerId.{PeerId}
-use Rattle.records.specs.declared.State.{State}
+use Rattle.records.specs.Held.{Held}
 use Rattle.records.specs.Limits.{octets}
 use Rattle.apdu.specs.declared.CodeField.the-variants.{Is, Other}
 use Rattle.apdu.specs.declared.OwnLink.{OwnLink}
@@ -34,12 +34,12 @@ use Rattle.protocol.specs.declared.Requested.{Requested}
 use Rattle.protocol.specs.declared.Outcome.{Outcome}
 use Rattle.protocol.specs.declared.Outcome.the-variants.{Accepted, Refused}
 use Rattle.protocol.specs.declared.Refusal.{Refusal}
-use Rattle.protocol.specs.Call.{Call, invoke, result, error, reject, Answer, accepted, refused, stateAfter, writtenBy}
+use Rattle.protocol.specs.Call.{Call, invoke, result, error, reject, Answer, accepted, refused, octetsBy, writtenBy, heldAfter}
 use Rattle.protocol.specs.Perform.{perform}
 use Rattle.protocol.specs.Reading.{readOutcome, Written, RequestPromise}
 use Rattle.capture.specs.Entry.{sideOf, idOf}
 use Rattle.player.specs.Play.{valueOctets, requestOf, forgetBy, forgetOf, differs, goes, agreed, asked}
-use Rattle.player.specs.Reading.{heldBy, readRequested}
+use Rattle.player.specs.Reading.{heldBy, beside, readRequested}
 use Rattle.player.proofs.SameLaws.{same-said}
 
 -- ---- what a call left and wrote
@@ -48,23 +48,23 @@ part-front : (l : List ℕ) (n : ℕ) → part l 0 n ≡ take n l
 part-front l n = let e : n - 0 ≡ n = omega arith in ap (λ (m : ℕ). take m l) e
 
 -- what stands at the front of the output is what was written
-pub front : (a : Answer) (before after : List ℕ) (n : ℕ) → Written a before after n → part after 0 n ≡ writtenBy a
+pub front : (a : Answer) (before after : List ℕ) (n : ℕ) → Written a before after n → part after 0 n ≡ octetsBy a
 front a before after n h =
-    part-front after n ∙ ap (take n) (h .octets) ∙ take-at (writtenBy a) (drop (length (writtenBy a)) before) n (sym (h .counted))
+    part-front after n ∙ ap (take n) (h .octets) ∙ take-at (octetsBy a) (drop (length (octetsBy a)) before) n (sym (h .counted))
 
 -- what the answer of a call says is what the definition says
-held-right : (a : Answer) (s t : State) (w x : List ℕ) (o : Outcome) → readOutcome o (stateAfter s a) (writtenBy a) ≡ a → t ≡ stateAfter s a → w ≡ writtenBy a → heldBy o t w x ≡ agreed x a
+held-right : (a : Answer) (s t : Held) (w x : List ℕ) (o : Outcome) → readOutcome o (heldAfter s a) (writtenBy a) ≡ a → t ≡ heldAfter s a → w ≡ octetsBy a → heldBy o t w x ≡ agreed x a
 unfolding readOutcome heldBy agreed
 held-right (accepted i u v) s t w x Accepted e f g = rw (f, g) refl
 held-right (refused n) s t w x Accepted e f g = let z : _≡_ {A = ℕ} 0 1 = cc in absurd (omega arith)
 held-right (accepted i u v) s t w x (Refused why) e f g = let z : _≡_ {A = ℕ} 0 1 = cc in absurd (omega arith)
 held-right (refused n) s t w x (Refused why) e f g = refl
 
-pub agrees-said : (b : Bool) (w x : List ℕ) (s : State) (o : Outcome) → o ≡ Accepted → (b ≡ true → w ≡ x) × (w ≡ x → b ≡ true) → cond b (goes s []) differs ≡ heldBy o s w x
+pub agrees-said : (b : Bool) (w x : List ℕ) (s : Held) (o : Outcome) → o ≡ Accepted → (b ≡ true → w ≡ x) × (w ≡ x → b ≡ true) → cond b (goes s []) differs ≡ heldBy o s w x
 unfolding heldBy
 agrees-said b w x s o e h = rw (e, same-said b w x h) refl
 
-pub refused-said : (why : Refusal) (w x : List ℕ) (s : State) (o : Outcome) → o ≡ Refused why → differs ≡ heldBy o s w x
+pub refused-said : (why : Refusal) (w x : List ℕ) (s : Held) (o : Outcome) → o ≡ Refused why → differs ≡ heldBy o s w x
 unfolding heldBy
 refused-said why w x s o e = rw e
 
@@ -80,15 +80,15 @@ value-none x v e = rw e
 
 -- ---- the call that an entry fits
 
-module _ (T : List ℕ) (s : State) (x : List ℕ) (o : Option Call) (r : Requested) where
-  pub asks : (c : Call) (given before after : List ℕ) → o ≡ some c → RequestPromise (perform T s c) s given before after r → readRequested r after x ≡ asked T s x o
+module _ (T : List ℕ) (s : Held) (x : List ℕ) (o : Option Call) (r : Requested) where
+  pub asks : (c : Call) (store given before after : List ℕ) → o ≡ some c → RequestPromise (perform T s c) s store given before after r → readRequested r store after x ≡ asked T s x o
   unfolding asked readRequested
-  asks c given before after e h =
-      rw e (held-right (perform T s c) s (r .state) (part after 0 (r .written)) x (r .outcome) (h .answers) (h .state) (front _ before after (r .written) (h .written)))
+  asks c store given before after e h =
+      rw e (held-right (perform T s c) s (beside (r .state) store) (part after 0 (r .written)) x (r .outcome) (h .answers) (h .holds) (front _ before after (r .written) (h .written)))
 
-  pub asks-nothing : (out : List ℕ) → o ≡ none → readRequested r out x ≡ differs → readRequested r out x ≡ asked T s x o
+  pub asks-nothing : (store out : List ℕ) → o ≡ none → readRequested r store out x ≡ differs → readRequested r store out x ≡ asked T s x o
   unfolding asked
-  asks-nothing out e h = h ∙ rw e refl
+  asks-nothing store out e h = h ∙ rw e refl
 
 -- what was read, p, as a request
 module _ (x : List ℕ) (p : Parsed) (said : readParsed x p ≡ parse x) where

@@ -1,4 +1,5 @@
 mod SameLaws
 mod AskingLaws
+mod WrittenLaws
 mod PlayLaws
 mod Witness

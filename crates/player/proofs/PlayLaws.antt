@@ -5,17 +5,18 @@ use mathlib.Core.Logic.{_⊎_, inl, inr}
 use mathlib.Core.Bool.{Bool, true, false, cond, _&&_, false≢true}
 use mathlib.Core.List.{List, [], _∷_}
 use native.Mathlib.Omega.{arith}
-use lib.ListN.{length}
+use lib.ListN.{length, getD}
 use Rattle.base.proofs.Tests.{and-left, and-false-left}
 use Rattle.base.proofs.Numbers.{less-or-not}
 use Rattle.base.specs.Octets.{part}
 use Rattle.records.specs.declared.State.{State}
 use Rattle.records.specs.State.{fresh}
+use Rattle.records.specs.Held.{Held, freshHeld}
 use Rattle.records.specs.Limits.{octets}
 use Rattle.optable.specs.Validity.{valid}
 use Rattle.apdu.specs.Parse.{parse}
 use Rattle.protocol.specs.declared.Received.{Received as Taken}
-use Rattle.protocol.specs.Call.{receive, stateAfter, writtenBy}
+use Rattle.protocol.specs.Call.{receive, octetsBy, writtenBy, endToEnd, heldAfter}
 use Rattle.protocol.specs.Perform.{perform}
 use Rattle.protocol.specs.Reading.{ReceivePromise}
 use Rattle.capture.specs.declared.Kind.{Kind}
@@ -24,14 +25,16 @@ use Rattle.capture.specs.Format.{count, valid as validCapture}
 use Rattle.capture.specs.declared.Entry.{Entry as Listed}
 use Rattle.capture.specs.Entry.{kindAt, octetsAt, following}
 use Rattle.capture.proofs.Answers.{no-entry, one-following}
+use Rattle.player.specs.declared.written.Place.{Place}
 use Rattle.player.specs.declared.turn.Turn.{Turn}
 use Rattle.protocol.specs.declared.Requested.{Requested}
 use Rattle.player.specs.declared.Report.{Report}
 use Rattle.player.specs.declared.Report.the-variants.{InvalidTable, MalformedCapture, Agree, Differs}
 use Rattle.player.specs.Play.{requestOf, forgetOf, sameOctets, isSent, Step, differs, goes, asked, playedAs, playOne, Verdict, differsAt, atEnd, behindStep, play, replay}
-use Rattle.player.specs.Reading.{readReport, heldBy, readRequested, onward, Turned, Led}
+use Rattle.player.specs.Reading.{readReport, heldBy, beside, readRequested, saysFinished, Writes, onward, Leads, Turned, Led}
 use Rattle.player.proofs.SameLaws.{same-said}
 use Rattle.player.proofs.AskingLaws.{front}
+use Rattle.player.proofs.WrittenLaws.{receive-writes, written-none, split}
 
 -- ---- whether an entry was sent with these octets
 
@@ -43,37 +46,33 @@ sent-same k r w x y e f h = rw (e, ← f) (same-said r w y h)
 
 -- ---- behind an entry whose call agrees, or at it
 
-module _ (t : List ℕ) (k : ℕ) (r : Requested) (out x : List ℕ) (b : Bool) (said : (s : State) → cond b (goes s []) differs ≡ heldBy (r .outcome) s (part out 0 (r .written)) x) where
-  pub led-behind : (n : ℕ) → b ≡ true → n ≡ following t k → Led t k (readRequested r out x) (record { state = r .state; place = n; differs = false })
+module _ (t : List ℕ) (k : ℕ) (r : Requested) (out x : List ℕ) (b : Bool) (said : (s : Held) → cond b (goes s []) differs ≡ heldBy (r .outcome) s (part out 0 (r .written)) x) (store : List ℕ) where
+  pub led-behind : (n : ℕ) → b ≡ true → n ≡ following t k → Led t k store (readRequested r store out x) (record { state = r .state; place = record { at = n; differs = false } })
   unfolding readRequested
-  led-behind n e f = record { steps = sym (said (r .state)) ∙ rw e refl; leads = f }
+  led-behind n e f = record { steps = sym (said (beside (r .state) store)) ∙ rw e refl; leads = f }
 
-  pub led-at : b ≡ false → Led t k (readRequested r out x) (record { state = r .state; place = k; differs = true })
+  pub led-at : b ≡ false → Led t k store (readRequested r store out x) (record { state = r .state; place = record { at = k; differs = true } })
   unfolding readRequested
-  led-at e = record { steps = sym (said (r .state)) ∙ rw e refl; leads = refl }
+  led-at e = record { steps = sym (said (beside (r .state) store)) ∙ rw e refl; leads = refl }
 
 -- ---- the walk's next step
 
 module _ (T t : List ℕ) where
-  onward-step : (k : ℕ) (s : State) (w : List ℕ) → k < count t → onward T t k s w ≡ behindStep (λ s′ w′. onward T t (k + 1) s′ w′) k (playOne T s w (kindAt t k) (octetsAt t k))
+  onward-step : (k : ℕ) (s : Held) (l : List (List ℕ)) → k < count t → onward T t k s l ≡ behindStep (λ s′ l′. onward T t (k + 1) s′ l′) k (playOne T s l (kindAt t k) (octetsAt t k))
   unfolding onward play
-  onward-step k s w h = let e : count t - k ≡ suc (count t - (k + 1)) = omega arith in rw e
+  onward-step k s l h = let e : count t - k ≡ suc (count t - (k + 1)) = omega arith in rw e
 
-  onward-end : (k : ℕ) (s : State) (w : List ℕ) → count t ≤ k → onward T t k s w ≡ atEnd k w
+  onward-end : (k : ℕ) (s : Held) (l : List (List ℕ)) → count t ≤ k → onward T t k s l ≡ atEnd k l
   unfolding onward play
-  onward-end k s w h = let e : count t - k ≡ 0 = omega arith in rw e
+  onward-end k s l h = let e : count t - k ≡ 0 = omega arith in rw e
 
-  pub onward-start : (s : State) → s ≡ fresh → play T t (count t) 0 fresh [] ≡ onward T t 0 s []
+  pub onward-start : (s : State) (store : List ℕ) → s ≡ fresh → store ≡ freshHeld .store → play T t (count t) 0 freshHeld [] ≡ onward T t 0 (beside s store) []
   unfolding onward
-  onward-start s f = let e : count t - 0 ≡ count t = omega arith in rw (f, e)
+  onward-start s store f g = let e : count t - 0 ≡ count t = omega arith in rw (f, g, e)
 
-  -- ---- the place after a received entry
+  -- ---- a place where an APDU must stand
 
-  module _ (k : ℕ) (s : State) where
-    pub answered-none : (w : List ℕ) → length w ≡ 0 → Turned T t k (onward T t k s w) (record { state = s; place = k; differs = false })
-    answered-none [] e = record { decides = refl; within = λ h. h; forward = λ h. omega arith }
-    answered-none (b ∷ w) e = absurd (omega arith)
-
+  module _ (k : ℕ) (s : Held) (w : List ℕ) (l : List (List ℕ)) where
     sent-within : isSent (kindAt t k) ≡ true → k < count t
     sent-within e = go (less-or-not k (count t))
       where
@@ -81,81 +80,108 @@ module _ (T t : List ℕ) where
         go (inl h) = h
         go (inr h) = absurd (false≢true (ap (λ (x : Listed). isSent (x .kind)) (no-entry t k h) ∙ e))
 
-    pub answered-sent : (w : List ℕ) (n : ℕ) → n ≡ following t k → (length w ≡ 0 → ⊥) → (isSent (kindAt t k) && sameOctets w (octetsAt t k)) ≡ true
-        → Turned T t k (onward T t k s w) (record { state = s; place = n; differs = false })
+    pub stands : (n : ℕ) → n ≡ following t k → (isSent (kindAt t k) && sameOctets w (octetsAt t k)) ≡ true → Leads T t k (onward T t k s (w ∷ l)) s l (record { at = n; differs = false })
     unfolding playOne
-    answered-sent [] n f z e = absurd (z refl)
-    answered-sent (b ∷ w) n f z e =
-        let h : k < count t = sent-within (and-left (isSent (kindAt t k)) (sameOctets (b ∷ w) (octetsAt t k)) e) in
+    stands n f e =
+        let h : k < count t = sent-within (and-left (isSent (kindAt t k)) (sameOctets w (octetsAt t k)) e) in
         let g : n ≡ k + 1 = f ∙ sym (one-following t k h) in
-        rw g (record { decides = onward-step k s (b ∷ w) h ∙ rw e; within = λ _. omega arith; forward = λ _. omega arith })
+        rw g (record { decides = onward-step k s (w ∷ l) h ∙ rw e; within = λ _. omega arith; forward = λ _. omega arith })
 
-    unanswered : (b : ℕ) (w : List ℕ) → (isSent (kindAt t k) && sameOctets (b ∷ w) (octetsAt t k)) ≡ false → (k < count t) ⊎ (count t ≤ k) → onward T t k s (b ∷ w) ≡ differsAt k
+    missing : (isSent (kindAt t k) && sameOctets w (octetsAt t k)) ≡ false → (k < count t) ⊎ (count t ≤ k) → onward T t k s (w ∷ l) ≡ differsAt k
     unfolding playOne
-    unanswered b w e (inl h) = onward-step k s (b ∷ w) h ∙ rw e
-    unanswered b w e (inr h) = onward-end k s (b ∷ w) h
+    missing e (inl h) = onward-step k s (w ∷ l) h ∙ rw e
+    missing e (inr h) = onward-end k s (w ∷ l) h
 
-    pub answered-other : (w : List ℕ) → (length w ≡ 0 → ⊥) → (isSent (kindAt t k) && sameOctets w (octetsAt t k)) ≡ false
-        → Turned T t k (onward T t k s w) (record { state = s; place = k; differs = true })
-    answered-other [] n e = absurd (n refl)
-    answered-other (b ∷ w) n e = record { decides = unanswered b w e (less-or-not k (count t)); within = λ h. h; forward = λ f. absurd (false≢true (sym f)) }
+    pub misses : (isSent (kindAt t k) && sameOctets w (octetsAt t k)) ≡ false → Leads T t k (onward T t k s (w ∷ l)) s l (record { at = k; differs = true })
+    misses e = record { decides = missing e (less-or-not k (count t)); within = λ h. h; forward = λ f. absurd (false≢true (sym f)) }
 
-  -- ---- an entry, with no Reject awaited
+  -- ---- the place after a received entry, the octets w having been written
 
-  module _ (k : ℕ) (s : State) (there : k < count t) where
-    entry-step : (K : Kind) (g : Step) → kindAt t k ≡ K → playedAs T s K (octetsAt t k) ≡ g → onward T t k s [] ≡ behindStep (λ s′ w′. onward T t (k + 1) s′ w′) k g
+  module _ (k : ℕ) (s : Held) (w : List ℕ) (l : List (List ℕ)) (h : Writes l) (e : w ≡ endToEnd l) where
+    pub answered-none : length w ≡ 0 → Leads T t k (onward T t k s l) s [] (record { at = k; differs = false })
+    answered-none z = rw (written-none w h e z) (record { decides = refl; within = λ g. g; forward = λ _. omega arith })
+
+    -- the first of them, y, leads to the place p
+    module _ (y : List ℕ) (end : ℕ) (v : y ≡ part w 0 end) (p : Place) (first : (m : List (List ℕ)) → Leads T t k (onward T t k s (y ∷ m)) s m p) (f : end ≡ 2 + getD w 1 0) (z : length w ≡ 0 → ⊥) where
+      pub answered-first : p .differs ≡ true → Leads T t k (onward T t k s l) s [] p
+      answered-first d =
+          let c = split w y end h e v f z in
+          let g = first (c .behind) in
+          rw (c .whole) (record { decides = g .decides ∙ rw d refl; within = g .within; forward = g .forward })
+
+      pub answered-one : saysFinished y ≡ false → Leads T t k (onward T t k s l) s [] p
+      answered-one b = let c = split w y end h e v f z in rw (c .whole, c .alone b) (first [])
+
+      pub answered-two : p .differs ≡ false → saysFinished y ≡ true → (r : List ℕ) → r ≡ part w end (length w) → (q : Place) → Leads T t (p .at) (onward T t (p .at) s (r ∷ [])) s [] q
+          → Leads T t k (onward T t k s l) s [] q
+      answered-two d b r u q g =
+          let c = split w y end h e v f z in
+          let i = first (r ∷ []) in
+          rw (c .whole, c .kept b, ← u) (record {
+            decides = i .decides ∙ rw d (g .decides);
+            within = λ n. g .within (i .within n);
+            forward = λ n. omega (arith, i .forward d, g .forward n);
+          })
+
+  -- ---- an entry, with no APDU awaited
+
+  module _ (k : ℕ) (s : Held) (there : k < count t) where
+    entry-step : (K : Kind) (g : Step) → kindAt t k ≡ K → playedAs T s K (octetsAt t k) ≡ g → onward T t k s [] ≡ behindStep (λ s′ l′. onward T t (k + 1) s′ l′) k g
     unfolding playOne
     entry-step K g e f = onward-step k s [] there ∙ rw (e, f)
 
-    pub received-turns : (x : List ℕ) (q : Turn) → kindAt t k ≡ Received → x ≡ octetsAt t k
-        → Turned T t (following t k) (onward T t (following t k) (stateAfter s (perform T s (receive x octets))) (writtenBy (perform T s (receive x octets)))) q
-        → Turned T t (k + 1) (onward T t k s []) q
+    pub received-turns : (x store : List ℕ) (q : Turn) → kindAt t k ≡ Received → x ≡ octetsAt t k
+        → Turned T t (following t k) (onward T t (following t k) (heldAfter s (perform T s (receive x octets))) (writtenBy (perform T s (receive x octets)))) store q
+        → Turned T t (k + 1) (onward T t k s []) store q
     unfolding playedAs
-    received-turns x q e f h =
+    received-turns x store q e f h =
         let g : k + 1 ≡ following t k = one-following t k there in
         rw g (record { decides = entry-step Received _ e refl ∙ rw (g, ← f) (h .decides); within = h .within; forward = h .forward })
 
     -- a played entry that was no received one leads behind it, or differs
-    turns : (K : Kind) (g : Step) → kindAt t k ≡ K → playedAs T s K (octetsAt t k) ≡ g → (q : Turn) → Led t k g q → Turned T t (k + 1) (onward T t k s []) q
-    turns K g e f q h = go (q .differs) refl
+    turns : (K : Kind) (g : Step) → kindAt t k ≡ K → playedAs T s K (octetsAt t k) ≡ g → (store : List ℕ) (q : Turn) → Led t k store g q → Turned T t (k + 1) (onward T t k s []) store q
+    turns K g e f store q h = go (q .place .differs) refl
       where
-        go : (b : Bool) → q .differs ≡ b → Turned T t (k + 1) (onward T t k s []) q
+        go : (b : Bool) → q .place .differs ≡ b → Turned T t (k + 1) (onward T t k s []) store q
         go false c =
-            let there′ : q .place ≡ k + 1 = h .leads ∙ rw c (sym (one-following t k there)) in
+            let there′ : q .place .at ≡ k + 1 = h .leads ∙ rw c (sym (one-following t k there)) in
             record { decides = entry-step K g e f ∙ rw (h .steps, c, there′) refl; within = λ _. omega arith; forward = λ _. omega arith }
         go true c =
-            let here : q .place ≡ k = h .leads ∙ rw c refl in
+            let here : q .place .at ≡ k = h .leads ∙ rw c refl in
             record { decides = entry-step K g e f ∙ rw (h .steps, c, here) refl; within = λ _. omega arith; forward = λ z. absurd (false≢true (sym z ∙ c)) }
 
-    module _ (r : Requested) (x : List ℕ) (q : Turn) where
-      pub sent-turns : (out : List ℕ) → kindAt t k ≡ Sent → x ≡ octetsAt t k → readRequested r out x ≡ asked T s x (requestOf (parse x)) → Led t k (readRequested r out x) q → Turned T t (k + 1) (onward T t k s []) q
+    module _ (r : Requested) (x store : List ℕ) (q : Turn) where
+      pub sent-turns : (out : List ℕ) → kindAt t k ≡ Sent → x ≡ octetsAt t k → readRequested r store out x ≡ asked T s x (requestOf (parse x)) → Led t k store (readRequested r store out x) q
+          → Turned T t (k + 1) (onward T t k s []) store q
       unfolding playedAs
-      sent-turns out e f h g = turns Sent _ e (rw (← f) (sym h)) q g
+      sent-turns out e f h g = turns Sent _ e (rw (← f) (sym h)) store q g
 
-      pub forget-turns : kindAt t k ≡ Forget → x ≡ octetsAt t k → readRequested r [] [] ≡ asked T s [] (forgetOf x) → Led t k (readRequested r [] []) q → Turned T t (k + 1) (onward T t k s []) q
+      pub forget-turns : kindAt t k ≡ Forget → x ≡ octetsAt t k → readRequested r store [] [] ≡ asked T s [] (forgetOf x) → Led t k store (readRequested r store [] []) q → Turned T t (k + 1) (onward T t k s []) store q
       unfolding playedAs
-      forget-turns e f h g = turns Forget _ e (rw (← f) (sym h)) q g
+      forget-turns e f h g = turns Forget _ e (rw (← f) (sym h)) store q g
 
-    pub nothing-turns : (r : Requested) (q : Turn) → kindAt t k ≡ Nothing → readRequested r [] [] ≡ differs → Led t k (readRequested r [] []) q → Turned T t (k + 1) (onward T t k s []) q
+    pub nothing-turns : (r : Requested) (store : List ℕ) (q : Turn) → kindAt t k ≡ Nothing → readRequested r store [] [] ≡ differs → Led t k store (readRequested r store [] []) q → Turned T t (k + 1) (onward T t k s []) store q
     unfolding playedAs
-    nothing-turns r q e h g = turns Nothing _ e (sym h) q g
+    nothing-turns r store q e h g = turns Nothing _ e (sym h) store q g
 
   -- what receive left and wrote, and where the walk goes on
-  pub received-right : (s : State) (x before after : List ℕ) (r : Taken) → ReceivePromise (perform T s (receive x (length before))) s x before after r → length before ≡ octets
-      → (w : List ℕ) → w ≡ part after 0 (r .written) → (q : Turn) (n m : ℕ) → n ≡ m → Turned T t n (onward T t n (r .state) w) q
-      → Turned T t m (onward T t m (stateAfter s (perform T s (receive x octets))) (writtenBy (perform T s (receive x octets)))) q
-  received-right s x before after r h room w v q n m e g =
-      let wrote : w ≡ writtenBy (perform T s (receive x (length before))) = v ∙ front _ before after (r .written) (h .written) in
-      rw (← e, ← room, ← h .state, ← wrote) g
+  pub received-right : (s : Held) (x store before after : List ℕ) (r : Taken) → ReceivePromise (perform T s (receive x (length before))) s store x before after r → length before ≡ octets
+      → (w : List ℕ) → w ≡ part after 0 (r .written) → (p : Place) (n m : ℕ) → n ≡ m
+      → ((h : Held) (l : List (List ℕ)) → Writes l → w ≡ endToEnd l → Leads T t n (onward T t n h l) h [] p)
+      → Turned T t m (onward T t m (heldAfter s (perform T s (receive x octets))) (writtenBy (perform T s (receive x octets)))) store (record { state = r .state; place = p })
+  received-right s x store before after r h room w v p n m e g =
+      let a = perform T s (receive x (length before)) in
+      let wrote : w ≡ octetsBy a = v ∙ front _ before after (r .written) (h .written) in
+      rw (← e, ← room, ← h .holds) (g (beside (r .state) store) (writtenBy a) (receive-writes T s x (length before)) wrote)
 
   -- ---- the walk
 
-  module _ (v : Verdict) (k : ℕ) (s : State) (so : v ≡ onward T t k s []) where
-    pub turn-differs : (q : Turn) → Turned T t (k + 1) (onward T t k s []) q → q .differs ≡ true → readReport (Differs (q .place)) ≡ v
+  module _ (v : Verdict) (k : ℕ) (s : Held) (so : v ≡ onward T t k s []) (store : List ℕ) where
+    pub turn-differs : (q : Turn) → Turned T t (k + 1) (onward T t k s []) store q → q .place .differs ≡ true → readReport (Differs (q .place .at)) ≡ v
     unfolding readReport
     turn-differs q h e = sym (so ∙ h .decides ∙ rw e refl)
 
-    pub turn-goes : (q : Turn) → Turned T t (k + 1) (onward T t k s []) q → q .differs ≡ false → v ≡ onward T t (q .place) (q .state) []
+    pub turn-goes : (q : Turn) → Turned T t (k + 1) (onward T t k s []) store q → q .place .differs ≡ false → v ≡ onward T t (q .place .at) (beside (q .state) store) []
     turn-goes q h e = so ∙ h .decides ∙ rw e refl
 
     pub walk-ends : (n : ℕ) → n ≡ k → count t ≤ k → readReport (Agree n) ≡ v
@@ -172,6 +198,6 @@ pub capture-wrong : (T t : List ℕ) → valid T ≡ true → validCapture t ≡
 unfolding readReport replay
 capture-wrong T t e f = rw (e, f) refl
 
-pub both-right : (T t : List ℕ) (r : Report) → valid T ≡ true → validCapture t ≡ true → readReport r ≡ play T t (count t) 0 fresh [] → readReport r ≡ replay T t
+pub both-right : (T t : List ℕ) (r : Report) → valid T ≡ true → validCapture t ≡ true → readReport r ≡ play T t (count t) 0 freshHeld [] → readReport r ≡ replay T t
 unfolding replay
 both-right T t r e f g = rw (e, f) g

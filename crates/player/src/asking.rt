@@ -5,12 +5,12 @@ ghost use mathlib.Core.List.{List, []};
 ghost use Prim.Native.Nat.{ℕ};
 ghost use lib.ListN.{length};
 ghost use Rattle.base.specs.Octets.{part};
-ghost use Rattle.records.specs.declared.State.{State};
+ghost use Rattle.records.specs.Held.{Held};
 ghost use Rattle.records.specs.Limits.{octets};
 ghost use Rattle.apdu.specs.Parse.{parse};
 ghost use Rattle.apdu.specs.Reading.{readOwnLink, readPeerLink, readValue};
 ghost use Rattle.player.specs.Play.{valueOctets, requestOf, forgetOf, differs, goes, asked};
-ghost use Rattle.player.specs.Reading.{heldBy, readRequested};
+ghost use Rattle.player.specs.Reading.{heldBy, beside, readRequested};
 use apdu::CodeField;
 use apdu::OwnLink;
 use apdu::Parsed;
@@ -33,7 +33,7 @@ use records::State;
 
 // Whether a call was accepted and wrote these octets, and no more, to the front of the output.
 pub(crate) fn agrees(outcome: Outcome, written: usize, out: &[u8], octets: &[u8]) -> bool
-    ensures { λ r. ⌜ ((s : State) → cond r (goes s []) differs ≡ heldBy outcome s (part (now (out .entry)) 0 written) (now (octets .entry))) ⌝ }
+    ensures { λ r. ⌜ ((s : Held) → cond r (goes s []) differs ≡ heldBy outcome s (part (now (out .entry)) 0 written) (now (octets .entry))) ⌝ }
 {
     match outcome {
         Outcome::Accepted => same(between(out, 0, written), octets),
@@ -43,7 +43,7 @@ pub(crate) fn agrees(outcome: Outcome, written: usize, out: &[u8], octets: &[u8]
 
 // What fits no call counts as refused; nobody asks with which number.
 pub(crate) fn unfit(state: State) -> Requested
-    ensures { λ r. ⌜ ((out x : List ℕ) → readRequested r out x ≡ differs) ⌝ }
+    ensures { λ r. ⌜ ((store out x : List ℕ) → readRequested r store out x ≡ differs) ⌝ }
 {
     Requested {
         state,
@@ -74,9 +74,15 @@ fn peer_link(linked: OwnLink) -> PeerLink
 }
 
 // A sent APDU, asked for again as its request; its ids are read as received, so that each changes its side.
-pub(crate) fn asked(table: &[u8], state: State, x: &[u8], out: &mut [u8]) -> Requested
+pub(crate) fn asked(
+    table: &[u8],
+    state: State,
+    store: &mut [u8],
+    x: &[u8],
+    out: &mut [u8],
+) -> Requested
     requires { ⌜ length (now out) ≡ octets ⌝ }
-    ensures { λ r. ⌜ readRequested r (now (out .exit)) (now (x .entry)) ≡ asked (now (table .entry)) state (now (x .entry)) (requestOf (parse (now (x .entry)))) ⌝ }
+    ensures { λ r. ⌜ readRequested r (now (store .exit)) (now (out .exit)) (now (x .entry)) ≡ asked (now (table .entry)) (beside state (now (store .entry))) (now (x .entry)) (requestOf (parse (now (x .entry)))) ⌝ }
 {
     let said = parse(x);
     match said {
@@ -91,21 +97,31 @@ pub(crate) fn asked(table: &[u8], state: State, x: &[u8], out: &mut [u8]) -> Req
             };
             let link = peer_link(linked);
             let given = value_octets(x, value);
-            rose::invoke(state, table, OwnId(id.0), operation, link, given, out)
+            rose::invoke(
+                state,
+                store,
+                table,
+                OwnId(id.0),
+                operation,
+                link,
+                given,
+                out,
+            )
         }
         Parsed::Result { id, body } => {
             let given = value_octets(x, body_value(body));
-            rose::result(state, table, PeerId(id.0), given, out)
+            rose::result(state, store, table, PeerId(id.0), given, out)
         }
         Parsed::Error { id, code, value } => {
             let CodeField::Is(error) = code else {
                 return unfit(state);
             };
             let given = value_octets(x, value);
-            rose::error(state, table, PeerId(id.0), error, given, out)
+            rose::error(state, store, table, PeerId(id.0), error, given, out)
         }
         Parsed::InvokeReject { id, problem } => rose::reject(
             state,
+            store,
             table,
             PeerId(id.0),
             problem,
@@ -116,13 +132,13 @@ pub(crate) fn asked(table: &[u8], state: State, x: &[u8], out: &mut [u8]) -> Req
 }
 
 // A forget's octets, as the call that they are; it writes nothing.
-pub(crate) fn forgotten(table: &[u8], state: State, x: &[u8]) -> Requested
-    ensures { λ r. ⌜ readRequested r [] [] ≡ asked (now (table .entry)) state [] (forgetOf (now (x .entry))) ⌝ }
+pub(crate) fn forgotten(table: &[u8], state: State, store: &[u8], x: &[u8]) -> Requested
+    ensures { λ r. ⌜ readRequested r (now (store .entry)) [] [] ≡ asked (now (table .entry)) (beside state (now (store .entry))) [] (forgetOf (now (x .entry))) ⌝ }
 {
     let id = id_of(x);
     match side_of(x) {
-        0 => rose::forget(state, table, Invocation::Own(OwnId(id))),
-        1 => rose::forget(state, table, Invocation::Peer(PeerId(id))),
+        0 => rose::forget(state, store, table, Invocation::Own(OwnId(id))),
+        1 => rose::forget(state, store, table, Invocation::Peer(PeerId(id))),
         _ => unfit(state),
     }
 }

@@ -2,16 +2,18 @@
 use Prim.Native.Nat.{ℕ, _≤_}
 use mathlib.Core.Path.{_≡_, refl}
 use mathlib.Core.Bool.{true, false}
-use mathlib.Core.List.{List, List·Memᴰ as In, List·Memᴰ·not-nil as in-nil}
+use mathlib.Core.List.{List, [], List·Memᴰ as In, List·Memᴰ·not-nil as in-nil}
 use mathlib.Core.Logic.{_⊎_, _≢_}
 use mathlib.Core.Option.{Option, some, none}
 use lib.ListN.{length, getD}
 use Rattle.codes.specs.declared.Code.{Code}
 use Rattle.records.specs.declared.Record.{Record}
 use Rattle.records.specs.Limits.{octets}
-use Rattle.records.specs.State.{fresh}
+use Rattle.records.specs.Kept.{KeptAnswer}
+use Rattle.records.specs.Held.{freshHeld, keptAnswers}
 use Rattle.records.specs.Numbers.{among, eachOnce}
 use Rattle.records.proofs.IdLaws.{never-both}
+use Rattle.records.proofs.StoreLaws.{view-packed}
 use Rattle.records.specs.Records.{idsOf}
 use Rattle.optable.specs.Lookup.{operationOf, resultOf, errorOf, parameterOf}
 use Rattle.optable.specs.Value.{valueRight}
@@ -23,6 +25,7 @@ use Rattle.apdu.specs.Parse.{Apdu, parse, invoke as Invoke, result as Result, e
 use Rattle.apdu.proofs.RoundTrip.{bodyOf}
 use Rattle.protocol.specs.Check.{classIn, isClass, ownRecords, peerRecords}
 use Rattle.protocol.specs.Receive.{fieldCode}
+use Rattle.protocol.specs.Demand3.{Small}
 use Rattle.protocol.specs.Book.{kiosk, controller, aResult, anError, Given, Wired, wired, Answered, World, begin}
 use Rattle.apdu.proofs.FieldRoundTrip.{CodeFits}
 use Rattle.protocol.proofs.Steady.{Steady, steady-fresh}
@@ -34,7 +37,7 @@ pub record Ours (owns : List Record) (live : List ℕ) (asked : List Record) (sh
   pub alive : live ≡ idsOf owns
   pub mine : (r : Record) → In r owns → In r asked
   pub unique : eachOnce (idsOf asked) ≡ true
-  pub fits : (r : Record) → In r asked → CodeFits (r .code)
+  pub fits : (r : Record) → In r asked → Small (r .id) × CodeFits (r .code)
   pub early : (i : ℕ) → among i shown ≡ true → among i (idsOf asked) ≡ true
   pub gone : (i : ℕ) → among i shown ≡ true → among i (idsOf owns) ≡ false
   pub once : eachOnce shown ≡ true
@@ -52,9 +55,27 @@ pub record Known (peers heard asked : List Record) : Type 0 where
 abbrev pub NoAnswer : List ℕ → Type 0
 NoAnswer x = (getD x 0 0 ≢ 0xA2) × (getD x 0 0 ≢ 0xA3)
 
--- an APDU on the wire from the controller is an answer of the book, or neither a result nor an error
+abbrev pub NoInvoke : List ℕ → Type 0
+NoInvoke x = getD x 0 0 ≢ 0xA1
+
+-- an APDU that stands in the book as an answer
+abbrev pub IsAnswer : List Answered → List ℕ → Type 0
+IsAnswer answers x = (e : Answered) × In e answers × (e .apdu ≡ x)
+
+-- an APDU that the controller may write: an answer of the book, or neither a result nor an error
+abbrev pub Sayable : List Answered → List ℕ → Type 0
+Sayable answers x = IsAnswer answers x ⊎ NoAnswer x
+
 abbrev pub Sent : List Wired → List Answered → Type 0
-Sent wire answers = (x : List ℕ) → In (wired controller x) wire → ((e : Answered) × In e answers × (e .apdu ≡ x)) ⊎ NoAnswer x
+Sent wire answers = (x : List ℕ) → In (wired controller x) wire → Sayable answers x
+
+-- each answer that the controller keeps stands in the book
+abbrev pub Stored : List KeptAnswer → List Answered → Type 0
+Stored kept answers = (k : KeptAnswer) → In k kept → IsAnswer answers (k .apdu)
+
+-- no answer that the kiosk keeps is an Invoke, which a probe of the controller's could put on the wire
+abbrev pub Quiet : List KeptAnswer → Type 0
+Quiet kept = (k : KeptAnswer) → In k kept → NoInvoke (k .apdu)
 
 -- an answer reads back as it was given, and the controller's table let it pass
 pub record ToldResult (N : List ℕ) (p : Apdu) (g : Given) : Type 0 where
@@ -83,25 +104,31 @@ pub record Told (N : List ℕ) (heard : List Record) (e : Answered) : Type 0 whe
 
 -- ---- the whole
 
--- what the book says, beside the two states
-pub record Kept (N : List ℕ) (w : World) : Type 0 where
+-- what the book says, beside what the two ends hold
+pub record Agrees (N : List ℕ) (w : World) : Type 0 where
   pub ours : Ours (ownRecords (w .kiosk)) (w .book .live) (w .book .asked) (w .shown)
   pub spoken : Spoken (w .book .wire) (w .book .asked)
   pub known : Known (peerRecords (w .controller)) (w .book .heard) (w .book .asked)
   pub sent : Sent (w .book .wire) (w .book .given)
   pub told : (e : Answered) → In e (w .book .given) → Told N (w .book .heard) e
+  pub stored : Stored (keptAnswers (w .controller)) (w .book .given)
+  pub quiet : Quiet (keptAnswers (w .kiosk))
 
 -- and both ends reach only sound states that their tables cover
 pub record Inv (O N : List ℕ) (w : World) : Type 0 where
   pub steadyK : Steady O (w .kiosk)
   pub steadyC : Steady N (w .controller)
-  pub kept : Kept N w
+  pub agrees : Agrees N w
 
-pub inv-begin : (O N : List ℕ) → Inv O N (begin fresh)
+-- a fresh end keeps no answer
+fresh-keeps : keptAnswers freshHeld ≡ []
+fresh-keeps = view-packed [] (λ k m. absurd (in-nil m))
+
+pub inv-begin : (O N : List ℕ) → Inv O N (begin freshHeld)
 inv-begin O N = record {
   steadyK = steady-fresh O;
   steadyC = steady-fresh N;
-  kept = record {
+  agrees = record {
     ours = record {
       alive = refl;
       mine = λ r m. absurd (in-nil m);
@@ -115,5 +142,7 @@ inv-begin O N = record {
     known = record { theirs = λ r m. m; hears = λ r m. m };
     sent = λ x m. absurd (in-nil m);
     told = λ e m. absurd (in-nil m);
+    stored = λ k m. absurd (in-nil (rw fresh-keeps at m));
+    quiet = λ k m. absurd (in-nil (rw fresh-keeps at m));
   };
 }

@@ -3,44 +3,54 @@ use Prim.Native.Nat.{ℕ}
 use mathlib.Core.Path.{_≡_, refl, sym, subst, ap, _∙_}
 use mathlib.Core.Bool.{Bool, true, false, cond}
 use mathlib.Core.List.{List, [], _∷_, _++_, List·Memᴰ as In, List·Memᴰ·head as here, Memᴰ·append-left as in-left, Memᴰ·append-right as in-right, List·Memᴰ·append-cases as in-cases, List·Memᴰ·eq-of-singleton as in-one}
-use mathlib.Core.Logic.{_⊎_, inl, inr, _≢_}
+use mathlib.Core.Logic.{_⊎_, inl, inr}
 use native.Mathlib.Omega.{arith}
 use lib.ListN.{getD}
 use lib.Dec.{eqb}
 use borrow.Author.Tests.{eqb-true, ne-eqb}
-use Rattle.base.proofs.Tests.{or-cases}
+use Rattle.base.proofs.Tests.{cond-elim, or-cases}
 use Rattle.codes.specs.declared.Code.{Code}
 use Rattle.records.specs.declared.Record.{Record}
 use Rattle.records.specs.Records.{member, without, idsOf}
 use Rattle.records.specs.Numbers.{among, eachOnce, leaving}
+use Rattle.records.specs.Kept.{KeptAnswer, isKept, keptApdu, keptWithout, keeping}
+use Rattle.records.specs.Held.{Held, keptAnswers, keepAnswer, dropAnswer}
 use Rattle.records.proofs.IdLaws.{never-both, among-added, once-added, among-leaving, among-left}
 use Rattle.records.proofs.Laws.{ids-added, ids-without}
+use Rattle.records.proofs.KeptLaws.{in-kept, in-kept-without, in-keeping, Short, short-keeping}
+use Rattle.records.proofs.StoreLaws.{view-packed}
+use Rattle.optable.specs.Service.{probeCode}
 use Rattle.apdu.specs.Parse.{invoke as Invoke}
 use Rattle.apdu.proofs.FirstOctet.{first-read}
-use Rattle.protocol.specs.Check.{codeIn}
+use Rattle.protocol.specs.Check.{peerRecords, codeIn}
+use Rattle.protocol.specs.Service.{reply, probed}
 use Rattle.protocol.specs.Receive.{fieldCode}
+use Rattle.protocol.specs.Demand3.{Small}
 use Rattle.protocol.specs.Book.{End, kiosk, controller, Wired, wired, Answered, wiring}
 use Rattle.apdu.proofs.FieldRoundTrip.{CodeFits}
 use Rattle.protocol.proofs.Ids.{in-without, in-member, in-code}
-use Rattle.protocol.proofs.Invariant.{Ours, Spoken, Known, NoAnswer, Sent}
+use Rattle.protocol.proofs.Invariant.{Ours, Spoken, Known, NoAnswer, NoInvoke, IsAnswer, Sayable, Sent, Stored}
 
 -- ---- the wire
 
 pub ends-apart : {A : Type 0} → kiosk ≡ controller → A
 ends-apart {A} e = let z : _≡_ {A = ℕ} 0 1 = cc in absurd (omega arith)
 
+-- what holds of each APDU of a list
+abbrev pub Each : (List ℕ → Type 0) → List (List ℕ) → Type 0
+Each P [] = Unit {0}
+Each P (x ∷ l) = P x × Each P l
+
 -- what is on the wire after an APDU is written: what was there, or that APDU
-pub wired-cases : {y : Wired} (e : End) (x : List ℕ) (wire : List Wired) → In y (wiring e x wire) → In y wire ⊎ (y ≡ wired e x)
-wired-cases e [] wire m = inl m
-wired-cases {y} e (b ∷ x) wire m = go (in-cases wire m)
+pub wired-cases : {y : Wired} (e : End) (x : List ℕ) (wire : List Wired) → In y (wire ++ (wired e x ∷ [])) → In y wire ⊎ (y ≡ wired e x)
+wired-cases {y} e x wire m = go (in-cases wire m)
   where
-    go : In y wire ⊎ In y (wired e (b ∷ x) ∷ []) → In y wire ⊎ (y ≡ wired e (b ∷ x))
+    go : In y wire ⊎ In y (wired e x ∷ []) → In y wire ⊎ (y ≡ wired e x)
     go (inl a) = inl a
     go (inr a) = inr (in-one a)
 
--- an APDU that is no Invoke of the kiosk's
-pub spoken-wired : {wire : List Wired} {asked : List Record} (e : End) (x : List ℕ) → (e ≡ kiosk → getD x 0 0 ≢ 0xA1) → Spoken wire asked → Spoken (wiring e x wire) asked
-spoken-wired {wire} {asked} e x n s y m i l c v p = go (wired-cases e x wire m)
+spoken-one : {wire : List Wired} {asked : List Record} (e : End) (x : List ℕ) → (e ≡ kiosk → NoInvoke x) → Spoken wire asked → Spoken (wire ++ (wired e x ∷ [])) asked
+spoken-one {wire} {asked} e x n s y m i l c v p = go (wired-cases e x wire m)
   where
     go : In (wired kiosk y) wire ⊎ (wired kiosk y ≡ wired e x) → In (record { id = i; code = fieldCode c }) asked
     go (inl a) = s y a i l c v p
@@ -48,26 +58,80 @@ spoken-wired {wire} {asked} e x n s y m i l c v p = go (wired-cases e x wire m)
         let q : y ≡ x = ap (λ (z : Wired). z .apdu) a in
         absurd (n (sym (ap (λ (z : Wired). z .from) a)) (ap (λ (z : List ℕ). getD z 0 0) (sym q) ∙ first-read y (Invoke i l c v) p (omega arith)))
 
--- an APDU that is no answer of the controller's
-pub sent-wired : {wire : List Wired} {answers : List Answered} (e : End) (x : List ℕ) → (e ≡ controller → NoAnswer x) → Sent wire answers → Sent (wiring e x wire) answers
-sent-wired {wire} {answers} e x n s y m = go (wired-cases e x wire m)
+-- APDUs of which none is an Invoke of the kiosk's
+pub spoken-wired : {wire : List Wired} {asked : List Record} (e : End) (l : List (List ℕ)) → (e ≡ kiosk → Each NoInvoke l) → Spoken wire asked → Spoken (wiring e l wire) asked
+spoken-wired e [] n s = s
+spoken-wired e (x ∷ l) n s = spoken-wired e l (λ q. n q .1) (spoken-one e x (λ q. n q .0) s)
+
+sent-one : {wire : List Wired} {answers : List Answered} (e : End) (x : List ℕ) → (e ≡ controller → Sayable answers x) → Sent wire answers → Sent (wire ++ (wired e x ∷ [])) answers
+sent-one {wire} {answers} e x n s y m = go (wired-cases e x wire m)
   where
-    go : In (wired controller y) wire ⊎ (wired controller y ≡ wired e x) → ((f : Answered) × In f answers × (f .apdu ≡ y)) ⊎ NoAnswer y
+    go : In (wired controller y) wire ⊎ (wired controller y ≡ wired e x) → Sayable answers y
     go (inl a) = s y a
-    go (inr a) = inr (subst NoAnswer (sym (ap (λ (z : Wired). z .apdu) a)) (n (sym (ap (λ (z : Wired). z .from) a))))
+    go (inr a) = subst (Sayable answers) (sym (ap (λ (z : Wired). z .apdu) a)) (n (sym (ap (λ (z : Wired). z .from) a)))
 
--- an answer, written with what was given
-pub sent-answer : {wire : List Wired} {answers : List Answered} (e : Answered) → Sent wire answers → Sent (wiring controller (e .apdu) wire) (answers ++ (e ∷ []))
-sent-answer {wire} {answers} e s y m = go (wired-cases controller (e .apdu) wire m)
+-- APDUs that the controller may write
+pub sent-wired : {wire : List Wired} {answers : List Answered} (e : End) (l : List (List ℕ)) → (e ≡ controller → Each (Sayable answers) l) → Sent wire answers → Sent (wiring e l wire) answers
+sent-wired e [] n s = s
+sent-wired e (x ∷ l) n s = sent-wired e l (λ q. n q .1) (sent-one e x (λ q. n q .0) s)
+
+pub none-answer : (answers : List Answered) (l : List (List ℕ)) → Each NoAnswer l → Each (Sayable answers) l
+none-answer answers [] h = tt
+none-answer answers (x ∷ l) h = (inr (h .0), none-answer answers l (h .1))
+
+-- an answer stays one where another is given
+pub answer-more : {answers : List Answered} {x : List ℕ} (e : Answered) → IsAnswer answers x → IsAnswer (answers ++ (e ∷ [])) x
+answer-more e t = (t .0, in-left (e ∷ []) (t .1), t .2)
+
+-- and the new one is one
+pub answer-new : (answers : List Answered) (e : Answered) → IsAnswer (answers ++ (e ∷ [])) (e .apdu)
+answer-new answers e = (e, in-right answers (here refl), refl)
+
+pub sent-more : {wire : List Wired} {answers : List Answered} (e : Answered) → Sent wire answers → Sent wire (answers ++ (e ∷ []))
+sent-more {wire} {answers} e s y m = go (s y m)
   where
-    more : ((f : Answered) × In f answers × (f .apdu ≡ y)) ⊎ NoAnswer y → ((f : Answered) × In f (answers ++ (e ∷ [])) × (f .apdu ≡ y)) ⊎ NoAnswer y
-    more (inl t) = inl (t .0, in-left (e ∷ []) (t .1), t .2)
-    more (inr t) = inr t
+    go : Sayable answers y → Sayable (answers ++ (e ∷ [])) y
+    go (inl t) = inl (answer-more e t)
+    go (inr t) = inr t
 
-    go : In (wired controller y) wire ⊎ (wired controller y ≡ wired controller (e .apdu))
-        → ((f : Answered) × In f (answers ++ (e ∷ [])) × (f .apdu ≡ y)) ⊎ NoAnswer y
-    go (inl a) = more (s y a)
-    go (inr a) = inl (e, in-right answers (here refl), sym (ap (λ (z : Wired). z .apdu) a))
+-- ---- kept answers
+
+-- what holds of the APDU of each kept answer
+abbrev pub EachKept : (List ℕ → Type 0) → List KeptAnswer → Type 0
+EachKept P kept = (k : KeptAnswer) → In k kept → P (k .apdu)
+
+module _ (P : List ℕ → Type 0) {kept : List KeptAnswer} where
+  pub each-dropped : (i : ℕ) → EachKept P kept → EachKept P (keptWithout i kept)
+  each-dropped i q k m = q k (in-kept-without i kept m)
+
+  -- an answer is kept where b says so
+  pub each-kept : (b : Bool) (a : KeptAnswer) → P (a .apdu) → EachKept P kept → EachKept P (cond b (keeping kept a) kept)
+  each-kept true a n q k m = go (in-keeping kept a m)
+    where
+      go : In k kept ⊎ (k ≡ a) → P (k .apdu)
+      go (inl e) = q k e
+      go (inr e) = rw e n
+  each-kept false a n q k m = q k m
+
+-- what holds of each reply and of each kept APDU holds of each APDU that a probe makes receive write
+pub each-probed : (P : List ℕ → Type 0) (s : Held) (i j : ℕ) → ((n : ℕ) → P (reply i probeCode n)) → EachKept P (keptAnswers s) → Each P (probed s i j)
+unfolding probed
+each-probed P s i j r q =
+    cond-elim (Each P) (member j (peerRecords s)) (reply i probeCode 0 ∷ []) _ (λ _. (r 0, tt))
+    (λ _. cond-elim (Each P) (isKept j (keptAnswers s)) (reply i probeCode 1 ∷ keptApdu j (keptAnswers s) ∷ []) (reply i probeCode 2 ∷ [])
+    (λ h. (r 1, (q (record { id = j; apdu = keptApdu j (keptAnswers s) }) (in-kept j (keptAnswers s) h), tt))) (λ _. (r 2, tt)))
+
+pub stored-more : {kept : List KeptAnswer} {answers : List Answered} (e : Answered) → Stored kept answers → Stored kept (answers ++ (e ∷ []))
+stored-more e s k m = answer-more e (s k m)
+
+-- what is read of the answers that a call leaves
+module _ (s : Held) (h : Short (keptAnswers s)) where
+  pub view-dropped : (i : ℕ) → keptAnswers (dropAnswer s (record { 0 = i })) ≡ keptWithout i (keptAnswers s)
+  view-dropped i = view-packed (keptWithout i (keptAnswers s)) (λ k m. h k (in-kept-without i (keptAnswers s) m))
+
+  pub view-kept : (b : Bool) (i : ℕ) (x : List ℕ) → keptAnswers (keepAnswer b s (record { 0 = i }) x) ≡ cond b (keeping (keptAnswers s) (record { id = i; apdu = x })) (keptAnswers s)
+  view-kept true i x = view-packed _ (short-keeping (keptAnswers s) (record { id = i; apdu = x }) h)
+  view-kept false i x = refl
 
 -- ---- the kiosk's invocations
 
@@ -112,9 +176,9 @@ module _ {owns : List Record} {live : List ℕ} {asked : List Record} {shown : L
       gone′ j (inr e) = rw (← (eqb-true i j e)) (among-left i (idsOf owns))
 
   -- an invocation is asked, and live unless it is silent
-  pub ours-ask : (i : ℕ) (c : Code) (silent : Bool) → CodeFits c → among i (idsOf asked) ≡ false → Ours owns live asked shown
+  pub ours-ask : (i : ℕ) (c : Code) (silent : Bool) → Small i → CodeFits c → among i (idsOf asked) ≡ false → Ours owns live asked shown
       → Ours (cond silent owns (owns ++ (record { id = i; code = c } ∷ []))) (cond silent live (live ++ (i ∷ []))) (asked ++ (record { id = i; code = c } ∷ [])) shown
-  ours-ask i c silent sc n o = go silent
+  ours-ask i c silent si sc n o = go silent
     where
       r : Record
       r = record { id = i; code = c }
@@ -122,9 +186,9 @@ module _ {owns : List Record} {live : List ℕ} {asked : List Record} {shown : L
       unique′ : eachOnce (idsOf (asked ++ (r ∷ []))) ≡ true
       unique′ = rw ids-added (once-added i (idsOf asked) (o .unique) n)
 
-      fits″ : (q : Record) → In q asked ⊎ In q (r ∷ []) → CodeFits (q .code)
+      fits″ : (q : Record) → In q asked ⊎ In q (r ∷ []) → Small (q .id) × CodeFits (q .code)
       fits″ q (inl m) = o .fits q m
-      fits″ q (inr m) = rw (in-one m) sc
+      fits″ q (inr m) = rw (in-one m) (si, sc)
 
       early′ : (j : ℕ) → among j shown ≡ true → among j (idsOf (asked ++ (r ∷ []))) ≡ true
       early′ j h = rw (ids-added, among-added, o .early j h) refl

@@ -8,7 +8,7 @@ use mathlib.Core.Option.{Option}
 use borrow.Author.Tests.{not-false}
 use Rattle.codes.specs.declared.Code.{Code}
 use Rattle.records.specs.declared.Record.{Record}
-use Rattle.records.specs.declared.State.{State}
+use Rattle.records.specs.Held.{Held}
 use Rattle.records.specs.declared.Found.{Found}
 use Rattle.records.specs.declared.Found.the-variants.{Operation, Nothing}
 use Rattle.records.specs.Records.{member, lookup}
@@ -35,7 +35,7 @@ member-same n l m e h = go (lookup n m) refl
     go Nothing q = absurd (never-both (member n l) h (nothing-is-absent n l (sym e ∙ q)))
 
 -- an Invoke whose request passed at s has none of the linked problems at t, where the parent's record is an own one
-pub linked-taken : (T : List ℕ) (s t : State) (i : ℕ) (c : Code) (l : Number) (v : List ℕ) (room : ℕ) (w : Option Part) → lookup (linkedTo l) (ownRecords t) ≡ lookup (linkedTo l) (peerRecords s)
+pub linked-taken : (T : List ℕ) (s t : Held) (i : ℕ) (c : Code) (l : Number) (v : List ℕ) (room : ℕ) (w : Option Part) → lookup (linkedTo l) (ownRecords t) ≡ lookup (linkedTo l) (peerRecords s)
     → Pass (checks T s (invoke i c l v room))
     → (failing 5 (invokeChecks T t i l (Is c) w) ≡ false) × (failing 6 (invokeChecks T t i l (Is c) w) ≡ false) × (failing 7 (invokeChecks T t i l (Is c) w) ≡ false)
 unfolding invokeChecks

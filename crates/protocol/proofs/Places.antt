@@ -4,12 +4,18 @@ use mathlib.Core.Bool.{Bool, true, false, cond}
 use mathlib.Core.List.{List}
 use mathlib.Core.Option.{Option, some, none}
 use lib.Dec.{eqb}
-use Rattle.records.specs.declared.State.{State}
+use Rattle.codes.specs.declared.Code.{Code}
+use Rattle.records.specs.Held.{Held}
+use Rattle.optable.specs.declared.Service.{Service}
+use Rattle.optable.specs.declared.Service.the-variants.{Probe, Acknowledge, Ordinary}
+use Rattle.optable.specs.Service.{serviceOf}
+use Rattle.apdu.specs.declared.Number.{Number}
+use Rattle.apdu.specs.Field.{Part}
 use Rattle.apdu.specs.declared.Number.the-variants.{Of, Absent}
 use Rattle.apdu.specs.Parse.{Apdu, badlyStructured, unrecognized, mistyped, parse, invoke as Invoke, result as Result, error as Error, reject as Reject}
 use Rattle.apdu.proofs.ValuePlace.{ValueStands, BodyStands, ApduStands, parse-stands}
 use Rattle.protocol.specs.Call.{Indication, invoked, resulted, erred, rejectedU, rejectedP, receive, indicatedBy}
-use Rattle.protocol.specs.Receive.{invokeChecks, resultChecks, errorChecks, receiveApdu}
+use Rattle.protocol.specs.Receive.{fieldCode, invokeChecks, invokeDone, resultChecks, errorChecks, receiveApdu}
 use Rattle.protocol.specs.Perform.{checks, done, perform}
 use Rattle.protocol.proofs.Checks.{settle}
 
@@ -22,13 +28,19 @@ ShownStands x (some (erred i e v c)) = ValueStands x v
 ShownStands x (some (rejectedU i kind p)) = Unit {0}
 ShownStands x (some (rejectedP i p)) = Unit {0}
 
-module _ (T : List ℕ) (s : State) (x : List ℕ) where
+module _ (T : List ℕ) (s : Held) (x : List ℕ) where
+  invoked-stands : (i : ℕ) (l : Number) (c : Code) (v : Option Part) (q : Service) → ValueStands x v → ShownStands x (indicatedBy (invokeDone T s i l c v q))
+  unfolding invokeDone
+  invoked-stands i l c v Probe w = tt
+  invoked-stands i l c v Acknowledge w = tt
+  invoked-stands i l c v Ordinary w = w
+
   received-stands : (p : Apdu) → ApduStands x p → ShownStands x (indicatedBy (receiveApdu T s x p))
   unfolding receiveApdu
   received-stands (badlyStructured p) w = tt
   received-stands unrecognized w = tt
   received-stands (mistyped i) w = tt
-  received-stands (Invoke i l c v) w = settle (λ a. ShownStands x (indicatedBy a)) (invokeChecks T s i l c v) _ (λ _. tt) (λ _. w)
+  received-stands (Invoke i l c v) w = settle (λ a. ShownStands x (indicatedBy a)) (invokeChecks T s i l c v) _ (λ _. tt) (λ _. invoked-stands i l (fieldCode c) v (serviceOf (fieldCode c)) w)
   received-stands (Result i b) w = settle (λ a. ShownStands x (indicatedBy a)) (resultChecks T s i b) _ (λ _. tt) (λ _. w)
   received-stands (Error i e v) w = settle (λ a. ShownStands x (indicatedBy a)) (errorChecks T s i e v) _ (λ _. tt) (λ _. w)
   received-stands (Reject Absent kind p) w = tt

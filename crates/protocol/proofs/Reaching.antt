@@ -15,7 +15,7 @@ use Rattle.codes.proofs.CodeLaws.{equal-code-same}
 use Rattle.records.proofs.Soundness.{sound-state}
 use Rattle.records.specs.Numbers.{among}
 use Rattle.optable.specs.Validity.{valid}
-use Rattle.optable.specs.Lookup.{Extends, operationOf, errorOf, known, paired}
+use Rattle.optable.specs.Lookup.{Extends, operationOf, errorOf, known, paired, roomNeeded}
 use Rattle.optable.proofs.TableLaws.{paired-known}
 use Rattle.apdu.specs.declared.Number.the-variants.{Of}
 use Rattle.apdu.specs.declared.CodeField.the-variants.{Is}
@@ -23,7 +23,7 @@ use Rattle.apdu.specs.Field.{Part}
 use Rattle.apdu.specs.Parse.{CodedValue, Apdu, parse, result as Result, error as Error}
 use Rattle.apdu.proofs.RoundTrip.{bodyOf}
 use Rattle.protocol.specs.Call.{receive, rejecting, refused, isRefused}
-use Rattle.protocol.specs.Check.{codeIn, classIn, isClass, ownRecords, leastRoom}
+use Rattle.protocol.specs.Check.{codeIn, classIn, isClass, ownRecords}
 use Rattle.protocol.specs.Receive.{otherCode, resultChecks, errorChecks, receiveApdu}
 use Rattle.protocol.specs.Perform.{laterChecks, checks, done, perform}
 use Rattle.protocol.specs.Book.{kiosk, Given, World}
@@ -46,15 +46,15 @@ module _ (O N : List ℕ) (valid-O : valid O ≡ true) (extends : Extends N O) w
 
   module _ (w : World) (inv : Inv O N w) (i : ℕ) where
     live-member : isLive (w .book) i → member i (ownRecords (w .kiosk)) ≡ true
-    live-member h = sym (ap (among i) (inv .kept .ours .alive)) ∙ h
+    live-member h = sym (ap (among i) (inv .agrees .ours .alive)) ∙ h
 
     member-live : member i (ownRecords (w .kiosk)) ≡ true → isLive (w .book) i
-    member-live h = ap (among i) (inv .kept .ours .alive) ∙ h
+    member-live h = ap (among i) (inv .agrees .ours .alive) ∙ h
 
     -- the record's operation is the same in both tables
     same-operation : (c : Code) → In (record { id = i; code = c }) (w .book .heard) → member i (ownRecords (w .kiosk)) ≡ true → operationOf N c ≡ operationOf O (codeIn (ownRecords (w .kiosk)) i)
     same-operation c m h =
-        let q = same-code O N w (inv .kept) i c m h in
+        let q = same-code O N w (inv .agrees) i c m h in
         ap (operationOf N) (sym q)
         ∙ extends .operations (codeIn (ownRecords (w .kiosk)) i) (covered-in O _ (ownRecords (w .kiosk)) (inv .steadyK .own .known) (in-code i (ownRecords (w .kiosk)) h))
 
@@ -78,7 +78,7 @@ module _ (O N : List ℕ) (valid-O : valid O ≡ true) (extends : Extends N O) w
         passes h =
             let o = same-operation w inv (g .id) (g .operation) m h in
             ap isRefused (pass (resultChecks O (w .kiosk) (g .id) body) _
-            (rw h, (rw (← o) (t .class), (same-beside (g .operation) (t .shown) _ (same-code O N w (inv .kept) (g .id) (g .operation) m h), (rw (← o, body-value (g .operation) (t .shown), t .octets, t .right), tt)))))
+            (rw h, (rw (← o) (t .class), (same-beside (g .operation) (t .shown) _ (same-code O N w (inv .agrees) (g .id) (g .operation) m h), (rw (← o, body-value (g .operation) (t .shown), t .octets, t .right), tt)))))
 
     -- ---- errors
 
@@ -100,38 +100,38 @@ module _ (O N : List ℕ) (valid-O : valid O ≡ true) (extends : Extends N O) w
 
         listing : isRefused (receiveApdu O (w .kiosk) x (Error (g .id) (Is (t .code)) (t .shown))) ≡ false → Listed O g
         listing h e q =
-            rw (← (same-code O N w (inv .kept) (g .id) (g .operation) m (live h)), ← (code-is e q)) (facts h .listed)
+            rw (← (same-code O N w (inv .agrees) (g .id) (g .operation) m (live h)), ← (code-is e q)) (facts h .listed)
 
         class : member (g .id) (ownRecords (w .kiosk)) ≡ true → isClass 4 5 (classIn O (codeIn (ownRecords (w .kiosk)) (g .id))) ≡ false
         class h = rw (← (same-operation w inv (g .id) (g .operation) m h)) (t .class)
 
         passes : member (g .id) (ownRecords (w .kiosk)) ≡ true → paired O (g .operation) (t .code) ≡ true → isRefused (receiveApdu O (w .kiosk) x (Error (g .id) (Is (t .code)) (t .shown))) ≡ false
         passes h l =
-            let s = same-code O N w (inv .kept) (g .id) (g .operation) m h in
+            let s = same-code O N w (inv .agrees) (g .id) (g .operation) m h in
             let n = paired-known O valid-O (g .operation) (t .code) l in
             ap isRefused (pass (errorChecks O (w .kiosk) (g .id) (Is (t .code)) (t .shown)) _
             (rw h, (class h, (rw n, (rw (s, l), (rw (← (extends .errors (t .code) n), t .octets, t .right), tt))))))
 
         stops : (e : Code) → t .code ≡ e → member (g .id) (ownRecords (w .kiosk)) ≡ true → paired O (g .operation) e ≡ false → (b : Bool) → known (errorOf O e) ≡ b
             → receiveApdu O (w .kiosk) x (Error (g .id) (Is (t .code)) (t .shown)) ≡ refused (rejecting (Of (g .id)) 0x83 (unlistedProblem O e))
-        stops e q h u true n = let s = same-code O N w (inv .kept) (g .id) (g .operation) m h in rw (q, h, class h, n, s, u)
+        stops e q h u true n = let s = same-code O N w (inv .agrees) (g .id) (g .operation) m h in rw (q, h, class h, n, s, u)
         stops e q h u false n = rw (q, h, class h, n)
 
   -- ---- the answers of the book
 
-  ready : (w : World) (x : List ℕ) (room : ℕ) → Inv O N w → length x ≤ octets → leastRoom ≤ room → Pass (checks O (w .kiosk) (receive x room))
+  ready : (w : World) (x : List ℕ) (room : ℕ) → Inv O N w → length x ≤ octets → roomNeeded O ≤ room → Pass (checks O (w .kiosk) (receive x room))
   unfolding laterChecks
   ready w x room inv s k =
       let sound = sound-state (steady-sound O (inv .steadyK)) in
       let covers = steady-usable O valid-O (inv .steadyK) in
-      (rw sound, (rw covers, (le-ltb octets (length x) s, (le-ltb room leastRoom k, tt))))
+      (rw sound, (rw covers, (le-ltb octets (length x) s, (le-ltb room (roomNeeded O) k, tt))))
 
-  pub reaches : (w : World) (x : List ℕ) (room : ℕ) → Inv O N w → leastRoom ≤ room → Reaches O (w .book) (receive x room) (perform O (w .kiosk) (receive x room))
+  pub reaches : (w : World) (x : List ℕ) (room : ℕ) → Inv O N w → roomNeeded O ≤ room → Reaches O (w .book) (receive x room) (perform O (w .kiosk) (receive x room))
   unfolding perform done
   reaches w x room inv k e m q =
-      let t : Told N (w .book .heard) e = inv .kept .told e m in
+      let t : Told N (w .book .heard) e = inv .agrees .told e m in
       rw (pass (checks O (w .kiosk) (receive x room)) (receiveApdu O (w .kiosk) x (parse x)) (ready w x room inv (rw q at (t .size)) k)) (rw (← q) (go (t .says)))
     where
       go : ToldResult N (parse (e .apdu)) (e .given) ⊎ ToldError N (parse (e .apdu)) (e .given) → AnswerClaim O (w .book) (e .given) (receiveApdu O (w .kiosk) (e .apdu) (parse (e .apdu)))
-      go (inl t) = result-claim w (e .apdu) (e .given) inv (inv .kept .told e m .from) t
-      go (inr t) = error-claim w (e .apdu) (e .given) inv (inv .kept .told e m .from) t
+      go (inl t) = result-claim w (e .apdu) (e .given) inv (inv .agrees .told e m .from) t
+      go (inr t) = error-claim w (e .apdu) (e .given) inv (inv .agrees .told e m .from) t

@@ -8,9 +8,13 @@ use mathlib.Core.Option.{Option, some, none}
 use native.Mathlib.Omega.{arith}
 use lib.Dec.{eqb}
 use Rattle.codes.specs.declared.Code.{Code}
-use Rattle.records.specs.declared.State.{State}
+use Rattle.records.specs.Held.{Held}
 use Rattle.records.specs.Records.{member}
+use Rattle.optable.specs.declared.Service.{Service}
+use Rattle.optable.specs.declared.Service.the-variants.{Probe, Acknowledge, Ordinary}
+use Rattle.optable.specs.Service.{serviceOf}
 use Rattle.optable.specs.Lookup.{known}
+use Rattle.apdu.specs.declared.Number.{Number}
 use Rattle.apdu.specs.declared.Number.the-variants.{Of, Absent}
 use Rattle.apdu.specs.Field.{Part, octetsOf}
 use Rattle.apdu.specs.Parse.{bodyValue, Apdu, badlyStructured, unrecognized, mistyped, parse, invoke as Invoke, result as Result, error as Error, reject as Reject}
@@ -18,14 +22,14 @@ use Rattle.apdu.proofs.FirstOctet.{kindOctet, first-read}
 use Rattle.apdu.proofs.RoundTrip.{bodyOf}
 use Rattle.protocol.specs.Call.{receive, rejectedP, rejectedU, indicatedBy}
 use Rattle.protocol.specs.Check.{codeIn, ownRecords}
-use Rattle.protocol.specs.Receive.{fieldCode, invokeChecks, resultChecks, errorChecks, receiveApdu}
+use Rattle.protocol.specs.Receive.{fieldCode, invokeChecks, invokeDone, resultChecks, errorChecks, receiveApdu}
 use Rattle.protocol.specs.Perform.{checks, done, perform}
 use Rattle.protocol.specs.Book.{kiosk, controller, aResult, anError, Given, wired, Answered, World, shownBy}
 use Rattle.protocol.specs.Demand3.{WasGiven}
 use Rattle.protocol.proofs.Checks.{settle}
 use Rattle.protocol.proofs.Facts.{arrived-result, arrived-error}
 use Rattle.protocol.proofs.Ids.{in-code, one-code}
-use Rattle.protocol.proofs.Invariant.{NoAnswer, ToldResult, ToldError, Kept}
+use Rattle.protocol.proofs.Invariant.{Sayable, ToldResult, ToldError, Agrees}
 
 -- ---- what a received result or error shows, with the record's operation code
 
@@ -81,17 +85,25 @@ told-reads g (inr t) = rw (t .reads) (ap {B = Option Given} (λ h. some h) (give
 
 -- ---- what the kiosk shows was given
 
-record Shows (s : State) (p : Apdu) (g : Given) : Type 0 where
+record Shows (s : Held) (p : Apdu) (g : Given) : Type 0 where
   live : member (g .id) (ownRecords s) ≡ true
   reads : readsAs p (codeIn (ownRecords s) (g .id)) ≡ some g
 
-shows-in : (O : List ℕ) (s : State) (x : List ℕ) (p : Apdu) (g : Given) → shownBy (indicatedBy (receiveApdu O s x p)) ≡ some g → Shows s p g
+-- a received Invoke shows none
+invoked-none : (O : List ℕ) (s : Held) (i : ℕ) (l : Number) (c : Code) (v : Option Part) (q : Service) → shownBy (indicatedBy (invokeDone O s i l c v q)) ≡ none
+unfolding invokeDone
+invoked-none O s i l c v Probe = refl
+invoked-none O s i l c v Acknowledge = refl
+invoked-none O s i l c v Ordinary = refl
+
+shows-in : (O : List ℕ) (s : Held) (x : List ℕ) (p : Apdu) (g : Given) → shownBy (indicatedBy (receiveApdu O s x p)) ≡ some g → Shows s p g
 unfolding receiveApdu
 shows-in O s x (badlyStructured p) g h = none-given h
 shows-in O s x unrecognized g h = none-given h
 shows-in O s x (mistyped i) g h = none-given h
 shows-in O s x (Invoke i l c v) g h =
-    settle (λ a. shownBy (indicatedBy a) ≡ some g → Shows s (Invoke i l c v) g) (invokeChecks O s i l c v) _ (λ _ q. none-given q) (λ _ q. none-given q) h
+    settle (λ a. shownBy (indicatedBy a) ≡ some g → Shows s (Invoke i l c v) g) (invokeChecks O s i l c v) _ (λ _ q. none-given q)
+    (λ _ q. none-given (sym (invoked-none O s i l (fieldCode c) v (serviceOf (fieldCode c))) ∙ q)) h
 shows-in O s x (Result i b) g h =
     settle (λ a. shownBy (indicatedBy a) ≡ some g → Shows s (Result i b) g) (resultChecks O s i b) _ (λ _ q. none-given q)
     (λ p q. subst (λ (k : Given). Shows s (Result i b) k) (some-given q) (record { live = arrived-result O s i b p; reads = refl })) h
@@ -107,16 +119,16 @@ shows-in O s x (Reject (Of i) kind p) g h = none-given (sym (silent (eqb kind 0x
 
 module _ (O N : List ℕ) where
   -- the operation that was heard with a live id is the record's
-  pub same-code : (w : World) → Kept N w → (i : ℕ) (c : Code) → In (record { id = i; code = c }) (w .book .heard) → member i (ownRecords (w .kiosk)) ≡ true → codeIn (ownRecords (w .kiosk)) i ≡ c
+  pub same-code : (w : World) → Agrees N w → (i : ℕ) (c : Code) → In (record { id = i; code = c }) (w .book .heard) → member i (ownRecords (w .kiosk)) ≡ true → codeIn (ownRecords (w .kiosk)) i ≡ c
   same-code w k i c m h = one-code (w .book .asked) (k .ours .unique) i _ _ (k .ours .mine _ (in-code i (ownRecords (w .kiosk)) h)) (k .known .hears _ m)
 
-  reply : (w : World) (x : List ℕ) (g : Given) → Kept N w → In (wired controller x) (w .book .wire) → Shows (w .kiosk) (parse x) g → WasGiven (w .book) g
+  reply : (w : World) (x : List ℕ) (g : Given) → Agrees N w → In (wired controller x) (w .book .wire) → Shows (w .kiosk) (parse x) g → WasGiven (w .book) g
   reply w x g k m s = go (k .sent x m)
     where
       facts : Reads (parse x) (codeIn (ownRecords (w .kiosk)) (g .id)) g
       facts = reads-facts (parse x) (codeIn (ownRecords (w .kiosk)) (g .id)) g (s .reads)
 
-      go : ((f : Answered) × In f (w .book .given) × (f .apdu ≡ x)) ⊎ NoAnswer x → WasGiven (w .book) g
+      go : Sayable (w .book .given) x → WasGiven (w .book) g
       go (inl t) =
           let f = t .0 in
           let said : readsAs (parse x) (f .given .operation) ≡ some (f .given) = rw (t .2) at (told-reads (f .given) (k .told f (t .1) .says)) in
@@ -136,7 +148,7 @@ module _ (O N : List ℕ) where
           octet (inr e) = t .1 (first-read x (parse x) refl (omega (arith, e)) ∙ e)
 
   -- every result or error indicated at the kiosk was given
-  pub shows-given : (w : World) (x : List ℕ) (room : ℕ) → Kept N w → In (wired controller x) (w .book .wire) → (g : Given) → shownBy (indicatedBy (perform O (w .kiosk) (receive x room))) ≡ some g → WasGiven (w .book) g
+  pub shows-given : (w : World) (x : List ℕ) (room : ℕ) → Agrees N w → In (wired controller x) (w .book .wire) → (g : Given) → shownBy (indicatedBy (perform O (w .kiosk) (receive x room))) ≡ some g → WasGiven (w .book) g
   unfolding perform done
   shows-given w x room k m g h =
       settle (λ a. shownBy (indicatedBy a) ≡ some g → WasGiven (w .book) g) (checks O (w .kiosk) (receive x room)) (receiveApdu O (w .kiosk) x (parse x)) (λ _ q. none-given q)

@@ -6,7 +6,7 @@ use mathlib.Core.List.{List, [], _∷_}
 use mathlib.Core.Option.{some, none}
 use native.Mathlib.Omega.{arith}
 use Rattle.records.specs.declared.Record.{Record}
-use Rattle.records.specs.State.{fresh}
+use Rattle.records.specs.Held.{freshHeld}
 use Rattle.records.specs.Numbers.{among, eachOnce}
 use Rattle.records.proofs.IdLaws.{once-before}
 use Rattle.records.specs.Records.{idsOf}
@@ -20,9 +20,9 @@ use Rattle.protocol.specs.Book.{asking, kiosk, controller, Event, at, Gi
 use Rattle.protocol.specs.Demand3.{Fair, UsesIdsOnce, Claim, Demand3}
 use Rattle.protocol.proofs.Checks.{Pass, settle}
 use Rattle.protocol.proofs.Steady.{steady-step}
-use Rattle.protocol.proofs.Invariant.{Kept, Inv, inv-begin}
-use Rattle.protocol.proofs.Kiosk.{isInvoke, idIn, kept-refused, kept-kiosk}
-use Rattle.protocol.proofs.Controller.{kept-controller}
+use Rattle.protocol.proofs.Invariant.{Agrees, Inv, inv-begin}
+use Rattle.protocol.proofs.Kiosk.{isInvoke, idIn, agrees-refused, agrees-kiosk}
+use Rattle.protocol.proofs.Controller.{agrees-controller}
 use Rattle.protocol.proofs.Showing.{shows-given}
 use Rattle.protocol.proofs.Reaching.{reaches}
 
@@ -65,39 +65,39 @@ module _ (O N : List ℕ) where
   done-accepted w (forget own i) q = refl
   done-accepted w (forget peer i) q = refl
 
-  kept-at-kiosk : (w : World) (c : Call) (cs : List Check) (a : Answer) → UsesIdsOnce (after O w (at kiosk c) (answer cs a))
-      → (Pass cs → (isRefused a ≡ false → isInvoke c ≡ true → among (idIn c) (idsOf (w .book .asked)) ≡ false) → Kept N (after O w (at kiosk c) a)) → Kept N w
-      → Kept N (after O w (at kiosk c) (answer cs a))
-  kept-at-kiosk w c cs a u f k =
-      settle (λ b. UsesIdsOnce (after O w (at kiosk c) b) → Kept N (after O w (at kiosk c) b)) cs a (λ r _. kept-refused O N w kiosk c r k) (λ p v. f p (λ q. new-id w c a q v)) u
+  agrees-at-kiosk : (w : World) (c : Call) (cs : List Check) (a : Answer) → UsesIdsOnce (after O w (at kiosk c) (answer cs a))
+      → (Pass cs → (isRefused a ≡ false → isInvoke c ≡ true → among (idIn c) (idsOf (w .book .asked)) ≡ false) → Agrees N (after O w (at kiosk c) a)) → Agrees N w
+      → Agrees N (after O w (at kiosk c) (answer cs a))
+  agrees-at-kiosk w c cs a u f k =
+      settle (λ b. UsesIdsOnce (after O w (at kiosk c) b) → Agrees N (after O w (at kiosk c) b)) cs a (λ r _. agrees-refused O N w kiosk c r k) (λ p v. f p (λ q. new-id w c a q v)) u
 
-  step : (w : World) (e : Event) → Fair w e → UsesIdsOnce (next O N w e) → Inv O N w → Inv O N (next O N w e)
+  step : valid N ≡ true → (w : World) (e : Event) → Fair O w e → UsesIdsOnce (next O N w e) → Inv O N w → Inv O N (next O N w e)
   unfolding answerTo perform
-  step w (at kiosk c) f u inv = record {
+  step valid-N w (at kiosk c) f u inv = record {
     steadyK = steady-step O (w .kiosk) c (inv .steadyK);
     steadyC = inv .steadyC;
-    kept = kept-at-kiosk w c (checks O (w .kiosk) c) (done O (w .kiosk) c) u (λ p n. kept-kiosk O N w c (f .0) (inv .steadyK) (λ q. n (done-accepted w c q) q) (inv .kept) p) (inv .kept);
+    agrees = agrees-at-kiosk w c (checks O (w .kiosk) c) (done O (w .kiosk) c) u (λ p n. agrees-kiosk O N w c (f .0) (inv .steadyK) (λ q. n (done-accepted w c q) q) (inv .agrees) p) (inv .agrees);
   }
-  step w (at controller c) f u inv = record {
+  step valid-N w (at controller c) f u inv = record {
     steadyK = inv .steadyK;
     steadyC = steady-step N (w .controller) c (inv .steadyC);
-    kept =
-        settle (λ a. Kept N (after O w (at controller c) a)) (checks N (w .controller) c) (done N (w .controller) c) (λ r. kept-refused O N w controller c r (inv .kept))
-        (λ p. kept-controller O N w c (f .0) (f .1) (inv .steadyC) (inv .kept) p);
+    agrees =
+        settle (λ a. Agrees N (after O w (at controller c) a)) (checks N (w .controller) c) (done N (w .controller) c) (λ r. agrees-refused O N w controller c r (inv .agrees))
+        (λ p. agrees-controller O N valid-N w c (f .0) (f .1) (inv .steadyC) (inv .agrees) p);
   }
 
   -- ---- and what is claimed of it holds
 
-  module _ (valid-O : valid O ≡ true) (extends : Extends N O) where
+  module _ (valid-O : valid O ≡ true) (valid-N : valid N ≡ true) (extends : Extends N O) where
     -- a request indicates nothing
-    silent : {A : Type 0} (cs : List Check) (s : _) (x : List ℕ) (g : Given) → shownBy (indicatedBy (answer cs (accepted none s x))) ≡ some g → A
+    silent : {A : Type 0} (cs : List Check) (s : _) (x : List (List ℕ)) (g : Given) → shownBy (indicatedBy (answer cs (accepted none s x))) ≡ some g → A
     silent {A} cs s x g h =
         settle (λ a. shownBy (indicatedBy a) ≡ some g → A) cs (accepted none s x)
         (λ _ q. let z : _≡_ {A = ℕ} 0 1 = cc in absurd (omega arith)) (λ _ q. let z : _≡_ {A = ℕ} 0 1 = cc in absurd (omega arith)) h
 
-    claim : (w : World) (e : Event) → Fair w e → Inv O N w → Claim O N w e
+    claim : (w : World) (e : Event) → Fair O w e → Inv O N w → Claim O N w e
     unfolding answerTo perform done
-    claim w (at kiosk (receive x room)) f inv = record { shows = shows-given O N w x room (inv .kept) (f .1); reaches = reaches O N valid-O extends w x room inv (f .2) }
+    claim w (at kiosk (receive x room)) f inv = record { shows = shows-given O N w x room (inv .agrees) (f .1); reaches = reaches O N valid-O extends w x room inv (f .2) }
     claim w (at kiosk (invoke i c l v room)) f inv = record { shows = λ g h. silent (checks O (w .kiosk) (invoke i c l v room)) _ _ g h; reaches = tt }
     claim w (at kiosk (result i v room)) f inv = record { shows = λ g h. silent (checks O (w .kiosk) (result i v room)) _ _ g h; reaches = tt }
     claim w (at kiosk (error i e v room)) f inv = record { shows = λ g h. silent (checks O (w .kiosk) (error i e v room)) _ _ g h; reaches = tt }
@@ -106,13 +106,13 @@ module _ (O N : List ℕ) where
     claim w (at kiosk (forget peer i)) f inv = record { shows = λ g h. silent (checks O (w .kiosk) (forget peer i)) _ _ g h; reaches = tt }
     claim w (at controller c) f inv = tt
 
-    along : (l : List Event) (w : World) → Inv O N w → Along O N Fair w l → UsesIdsOnce (final O N w l) → Along O N (Claim O N) w l × (eachOnce (final O N w l .shown) ≡ true)
-    along [] w inv f u = (tt, inv .kept .ours .once)
+    along : (l : List Event) (w : World) → Inv O N w → Along O N (Fair O) w l → UsesIdsOnce (final O N w l) → Along O N (Claim O N) w l × (eachOnce (final O N w l .shown) ≡ true)
+    along [] w inv f u = (tt, inv .agrees .ours .once)
     along (e ∷ l) w inv f u =
-        let rest = along l (next O N w e) (step w e (f .0) (once-run l (next O N w e) u) inv) (f .1) u in
+        let rest = along l (next O N w e) (step valid-N w e (f .0) (once-run l (next O N w e) u) inv) (f .1) u in
         ((claim w e (f .0) inv, rest .0), rest .1)
 
 pub demand-3 : Demand3
 demand-3 O N valid-O valid-N extends l fair once =
-    let p = along O N valid-O extends l (begin fresh) (inv-begin O N) fair once in
+    let p = along O N valid-O valid-N extends l (begin freshHeld) (inv-begin O N) fair once in
     record { each = p .0; once = p .1 }

@@ -5,7 +5,7 @@ use mathlib.Core.Option.{Option, some, none}
 use Rattle.codes.specs.declared.Code.{Code}
 use Rattle.codes.specs.declared.Code.the-variants.{Local, Global}
 use Rattle.codes.specs.Code.{nameOf}
-use Rattle.records.specs.State.{fresh}
+use Rattle.records.specs.Held.{freshHeld}
 use Rattle.apdu.specs.declared.Number.the-variants.{Of, Absent}
 use Rattle.apdu.specs.Encode.{encodeInvoke, encodeResult, encodeError, encodeReject}
 use Rattle.protocol.specs.Call.{own, receive, invoke, result, error, forget, Refusal, plain, rejecting, Answer, accepted, refused}
@@ -14,7 +14,7 @@ use Rattle.protocol.proofs.WitnessTables.{tableO, tableN, tableX, table
 
 -- ---- calls
 
-abbrev seven : Code
+abbrev pub seven : Code
 seven = Local 7
 
 abbrev pub named1 : Code
@@ -26,10 +26,10 @@ named2 = Global (nameOf (0x2B ∷ 0x06 ∷ 0x02 ∷ []))
 abbrev errorCode : ℕ → Code
 errorCode n = Local n
 
-abbrev three : List ℕ
+abbrev pub three : List ℕ
 three = 0x02 ∷ 0x01 ∷ 0x03 ∷ []
 
-abbrev zero02 : List ℕ
+abbrev pub zero02 : List ℕ
 zero02 = 0x02 ∷ 0x01 ∷ 0x00 ∷ []
 
 -- an indefinite length, closed and not
@@ -45,7 +45,7 @@ ask i = at kiosk (invoke i seven Absent three 100)
 abbrev hear : ℕ → Event
 hear i = at controller (receive (encodeInvoke i Absent seven (some three)) 11)
 
-abbrev giveResult : ℕ → List ℕ → Event
+abbrev pub giveResult : ℕ → List ℕ → Event
 giveResult i v = at controller (result i v 100)
 
 abbrev giveError : ℕ → ℕ → Event
@@ -78,7 +78,7 @@ refusalsOf O N w [] = []
 refusalsOf O N w (e ∷ l) = refusalOf (answerTo O N w e) ∷ refusalsOf O N (next O N w e) l
 
 abbrev pub tells : Run → Tells
-tells r = record { refusals = refusalsOf (r .atKiosk) (r .atController) (begin fresh) (r .events); shown = final (r .atKiosk) (r .atController) (begin fresh) (r .events) .shown }
+tells r = record { refusals = refusalsOf (r .atKiosk) (r .atController) (begin freshHeld) (r .events); shown = final (r .atKiosk) (r .atController) (begin freshHeld) (r .events) .shown }
 
 -- a result is shown once though its APDU arrives twice; an error; an absent result; an unlisted error of each sort
 abbrev pub good : List Event

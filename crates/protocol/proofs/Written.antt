@@ -3,7 +3,6 @@ use Prim.Native.Nat.{ℕ, _-_, _≤_}
 use mathlib.Core.Path.{_≡_, refl, _∙_}
 use mathlib.Core.Bool.{Bool, true, false, cond, not, _&&_}
 use mathlib.Core.List.{List, [], _∷_, _++_}
-use mathlib.Core.Logic.{_≢_}
 use mathlib.Core.Option.{Option, some, none}
 use native.Mathlib.Omega.{arith}
 use lib.ListN.{length, getD}
@@ -15,30 +14,37 @@ use Rattle.codes.specs.declared.Code.the-variants.{Local, Global}
 use Rattle.codes.specs.Code.{codeRight}
 use Rattle.records.specs.declared.Record.{Record}
 use Rattle.records.specs.declared.Records.{Records}
-use Rattle.records.specs.declared.State.{State}
+use Rattle.records.specs.Held.{Held, inState, keptAnswers}
 use Rattle.records.specs.Limits.{octets, levels}
 use Rattle.records.specs.Records.{view, added}
 use Rattle.records.specs.State.{addOwn, addPeer}
 use Rattle.records.proofs.Soundness.{Sound, view-added}
 use Rattle.apdu.specs.declared.Number.{Number}
 use Rattle.apdu.specs.declared.Number.the-variants.{Of, Absent}
-use Rattle.apdu.proofs.FirstOctet.{first-reject}
+use Rattle.apdu.proofs.FirstOctet.{first-result, first-reject}
 use Rattle.apdu.proofs.FieldRoundTrip.{NumberFits, ValueFits, CodeFits}
 use Rattle.protocol.specs.Call.{Refusal, plain, rejecting, rejectWritten}
 use Rattle.protocol.specs.Check.{isFull, isSilent, ownRecords, peerRecords, valueWell, withinLimits}
 use Rattle.protocol.specs.Receive.{withPeer}
 use Rattle.protocol.specs.Perform.{withOwn}
 use Rattle.protocol.specs.Demand3.{SmallNumber, SmallCode}
+use Rattle.protocol.specs.Service.{enumerated, reply}
 use Rattle.protocol.proofs.Steady.{Steady, room-left}
+use Rattle.protocol.proofs.Invariant.{NoAnswer, NoInvoke}
+use Rattle.protocol.proofs.Keeping.{Each}
 
 -- ---- first octets
 
 -- a refusal writes no Invoke and no answer
-pub refusal-first : (r : Refusal) → (getD (rejectWritten r) 0 0 ≢ 0xA1) × (getD (rejectWritten r) 0 0 ≢ 0xA2) × (getD (rejectWritten r) 0 0 ≢ 0xA3)
-refusal-first (plain n) = (omega arith, omega arith, omega arith)
+pub refusal-first : (r : Refusal) → Each NoInvoke (rejectWritten r) × Each NoAnswer (rejectWritten r)
+refusal-first (plain n) = (tt, tt)
 refusal-first (rejecting i kind p) =
     let e = first-reject i kind p in
-    (omega arith, omega arith, omega arith)
+    ((omega arith, tt), ((omega arith, omega arith), tt))
+
+pub first-reply : (i : ℕ) (c : Code) (n : ℕ) → getD (reply i c n) 0 0 ≡ 0xA2
+unfolding reply
+first-reply i c n = first-result i c (some (enumerated n))
 
 -- ---- the limits of what is written
 
@@ -74,32 +80,47 @@ side-with : (b : Bool) {d : Records} (r : Record) → Sound d → codeRight (r .
 side-with true r h form room = refl
 side-with false {d} r h form room = view-added h r (room-left [] false (view d) refl room) form
 
-module _ (T : List ℕ) (s : State) (i : ℕ) (c : Code) (h : Steady T s) (form : codeRight c ≡ true) where
+module _ (T : List ℕ) (s : Held) (i : ℕ) (c : Code) (h : Steady T s) (form : codeRight c ≡ true) where
   pub own-with : (not (isSilent T c) && isFull (ownRecords s)) ≡ false → ownRecords (withOwn T s i c) ≡ cond (isSilent T c) (ownRecords s) (ownRecords s ++ (record { id = i; code = c } ∷ []))
   own-with room = go (isSilent T c) ∙ side-with (isSilent T c) (record { id = i; code = c }) (h .own .sound) form room
     where
-      go : (b : Bool) → ownRecords (cond b s (addOwn s (record { 0 = i }) c)) ≡ view (cond b (s .own) (added (s .own) (record { id = i; code = c })))
+      go : (b : Bool) → ownRecords (cond b s (inState s (addOwn (s .state) (record { 0 = i }) c))) ≡ view (cond b (s .state .own) (added (s .state .own) (record { id = i; code = c })))
       go true = refl
       go false = refl
 
   pub peer-with : (not (isSilent T c) && isFull (peerRecords s)) ≡ false → peerRecords (withPeer T s i c) ≡ cond (isSilent T c) (peerRecords s) (peerRecords s ++ (record { id = i; code = c } ∷ []))
   peer-with room = go (isSilent T c) ∙ side-with (isSilent T c) (record { id = i; code = c }) (h .peer .sound) form room
     where
-      go : (b : Bool) → peerRecords (cond b s (addPeer s (record { 0 = i }) c)) ≡ view (cond b (s .peer) (added (s .peer) (record { id = i; code = c })))
+      go : (b : Bool) → peerRecords (cond b s (inState s (addPeer (s .state) (record { 0 = i }) c))) ≡ view (cond b (s .state .peer) (added (s .state .peer) (record { id = i; code = c })))
       go true = refl
       go false = refl
 
 -- the other side stays
-pub own-beside : (T : List ℕ) (s : State) (i : ℕ) (c : Code) → ownRecords (withPeer T s i c) ≡ ownRecords s
+pub own-beside : (T : List ℕ) (s : Held) (i : ℕ) (c : Code) → ownRecords (withPeer T s i c) ≡ ownRecords s
 own-beside T s i c = go (isSilent T c)
   where
-    go : (b : Bool) → ownRecords (cond b s (addPeer s (record { 0 = i }) c)) ≡ ownRecords s
+    go : (b : Bool) → ownRecords (cond b s (inState s (addPeer (s .state) (record { 0 = i }) c))) ≡ ownRecords s
     go true = refl
     go false = refl
 
-pub peer-beside : (T : List ℕ) (s : State) (i : ℕ) (c : Code) → peerRecords (withOwn T s i c) ≡ peerRecords s
+pub peer-beside : (T : List ℕ) (s : Held) (i : ℕ) (c : Code) → peerRecords (withOwn T s i c) ≡ peerRecords s
 peer-beside T s i c = go (isSilent T c)
   where
-    go : (b : Bool) → peerRecords (cond b s (addOwn s (record { 0 = i }) c)) ≡ peerRecords s
+    go : (b : Bool) → peerRecords (cond b s (inState s (addOwn (s .state) (record { 0 = i }) c))) ≡ peerRecords s
+    go true = refl
+    go false = refl
+
+-- and the kept answers stay
+pub kept-beside-peer : (T : List ℕ) (s : Held) (i : ℕ) (c : Code) → keptAnswers (withPeer T s i c) ≡ keptAnswers s
+kept-beside-peer T s i c = go (isSilent T c)
+  where
+    go : (b : Bool) → keptAnswers (cond b s (inState s (addPeer (s .state) (record { 0 = i }) c))) ≡ keptAnswers s
+    go true = refl
+    go false = refl
+
+pub kept-beside-own : (T : List ℕ) (s : Held) (i : ℕ) (c : Code) → keptAnswers (withOwn T s i c) ≡ keptAnswers s
+kept-beside-own T s i c = go (isSilent T c)
+  where
+    go : (b : Bool) → keptAnswers (cond b s (inState s (addOwn (s .state) (record { 0 = i }) c))) ≡ keptAnswers s
     go true = refl
     go false = refl

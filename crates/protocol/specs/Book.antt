@@ -1,4 +1,4 @@
--- The two ends, the channel and the book: document 01, 'The book for demand 3'. Wire, asked, heard, given and live are that part's own terms.
+-- The two ends, the channel and the book: document 01, 'The book for demand 3'; document 02, Seven. Wire, asked, heard, given and live are that part's own terms.
 use Prim.Native.Nat.{ℕ}
 use mathlib.Core.Bool.{Bool, true, false, cond}
 use mathlib.Core.List.{List, [], _∷_, _++_}
@@ -7,14 +7,14 @@ use lib.Dec.{eqb}
 use Rattle.codes.specs.declared.Code.{Code}
 use Rattle.codes.specs.declared.Code.the-variants.{Local}
 use Rattle.records.specs.declared.Record.{Record}
-use Rattle.records.specs.declared.State.{State}
+use Rattle.records.specs.Held.{Held}
 use Rattle.records.specs.Numbers.{among, leaving}
 use Rattle.records.specs.Records.{idsOf}
 use Rattle.apdu.specs.declared.Number.the-variants.{Of, Absent}
 use Rattle.apdu.specs.Field.{octetsOf}
 use Rattle.apdu.specs.Parse.{bodyValue, Apdu, badlyStructured, unrecognized, mistyped, parse, invoke as Invoke, result as Result, error as Error, reject as Reject}
 use Rattle.base.specs.Lists.{nonEmpty}
-use Rattle.protocol.specs.Call.{own, peer, Call, receive, invoke, result, error, reject, forget, Indication, invoked, resulted, erred, rejectedU, rejectedP, Answer, isRefused, indicatedBy, writtenBy, stateAfter}
+use Rattle.protocol.specs.Call.{own, peer, Call, receive, invoke, result, error, reject, forget, Indication, invoked, resulted, erred, rejectedU, rejectedP, Answer, isRefused, indicatedBy, writtenBy, heldAfter}
 use Rattle.protocol.specs.Check.{isSilent}
 use Rattle.protocol.specs.Receive.{fieldCode}
 use Rattle.protocol.specs.Perform.{perform}
@@ -104,15 +104,42 @@ hearing controller (error i e v room) heard = heard
 hearing controller (reject i p room) heard = heard
 hearing controller (forget side i) heard = heard
 
--- given: each accepted result or error request of the controller, with the code last heard with that id, and the octets that it wrote
-abbrev pub giving : List Record → End → Call → List ℕ → List Answered → List Answered
-giving heard kiosk c x l = l
-giving heard controller (result i v room) x l = l ++ (record { given = record { id = i; operation = lastCode i heard; kind = aResult; error = none; value = nonEmpty v }; apdu = x } ∷ [])
-giving heard controller (error i e v room) x l = l ++ (record { given = record { id = i; operation = lastCode i heard; kind = anError; error = some e; value = nonEmpty v }; apdu = x } ∷ [])
-giving heard controller (receive y room) x l = l
-giving heard controller (invoke i c k v room) x l = l
-giving heard controller (reject i p room) x l = l
-giving heard controller (forget side i) x l = l
+-- what was given, with the APDU that it wrote
+abbrev pub givenBy : Given → List (List ℕ) → List Answered → List Answered
+givenBy g [] l = l
+givenBy g (x ∷ more) l = l ++ (record { given = g; apdu = x } ∷ [])
+
+-- the value of the result that an APDU is
+abbrev pub valueIn : Apdu → Option (List ℕ)
+valueIn (badlyStructured p) = none
+valueIn unrecognized = none
+valueIn (mistyped i) = none
+valueIn (Invoke i l c v) = none
+valueIn (Result i b) = octetsOf (bodyValue b)
+valueIn (Error i e v) = none
+valueIn (Reject i kind p) = none
+
+-- an answer of the controller's own to an Invoke counts as given by its caller
+abbrev pub givingOwn : List Record → Apdu → List ℕ → List Answered → List Answered
+givingOwn heard (badlyStructured p) x l = l
+givingOwn heard unrecognized x l = l
+givingOwn heard (mistyped i) x l = l
+givingOwn heard (Invoke i k c v) x l = l ++ (record { given = record { id = i; operation = lastCode i heard; kind = aResult; error = none; value = valueIn (parse x) }; apdu = x } ∷ [])
+givingOwn heard (Result i b) x l = l
+givingOwn heard (Error i e v) x l = l
+givingOwn heard (Reject i kind p) x l = l
+
+-- given: each accepted result or error request of the controller and each answer of its own, with the code last heard with that id, and the APDU that it wrote;
+-- an APDU behind an own answer is a kept one, which was given before
+abbrev pub giving : List Record → End → Call → List (List ℕ) → List Answered → List Answered
+giving heard kiosk c w l = l
+giving heard controller (result i v room) w l = givenBy (record { id = i; operation = lastCode i heard; kind = aResult; error = none; value = nonEmpty v }) w l
+giving heard controller (error i e v room) w l = givenBy (record { id = i; operation = lastCode i heard; kind = anError; error = some e; value = nonEmpty v }) w l
+giving heard controller (receive y room) [] l = l
+giving heard controller (receive y room) (x ∷ more) l = givingOwn heard (parse y) x l
+giving heard controller (invoke i c k v room) w l = l
+giving heard controller (reject i p room) w l = l
+giving heard controller (forget side i) w l = l
 
 -- live: an id leaves when the kiosk accepts a result, an error or an invoke problem Reject with that id
 abbrev pub leavingBy : Apdu → List ℕ → List ℕ
@@ -137,31 +164,32 @@ living O kiosk (forget own i) l = leaving i l
 living O kiosk (forget peer i) l = l
 
 -- wire: each APDU written; the Reject of an 18 counts
-abbrev pub wiring : End → List ℕ → List Wired → List Wired
+abbrev pub wiring : End → List (List ℕ) → List Wired → List Wired
 wiring e [] wire = wire
-wiring e (b ∷ x) wire = wire ++ (wired e (b ∷ x) ∷ [])
+wiring e (x ∷ more) wire = wiring e more (wire ++ (wired e x ∷ []))
 
--- the book is fed each call's arguments, whether it was refused, and what it wrote; a refused call changes only wire
-abbrev pub note : List ℕ → Book → Event → Bool → List ℕ → Book
-note O b (at e c) true x = record { wire = wiring e x (b .wire); asked = b .asked; heard = b .heard; given = b .given; live = b .live }
-note O b (at e c) false x = record {
-  wire = wiring e x (b .wire);
+-- the book is fed each call's arguments, whether it was refused, and what it wrote; a refused call changes only wire; heard comes before given, so that
+-- the code last heard with the id of an own answer is that of the Invoke it answers
+abbrev pub note : List ℕ → Book → Event → Bool → List (List ℕ) → Book
+note O b (at e c) true w = record { wire = wiring e w (b .wire); asked = b .asked; heard = b .heard; given = b .given; live = b .live }
+note O b (at e c) false w = record {
+  wire = wiring e w (b .wire);
   asked = asking e c (b .asked);
   heard = hearing e c (b .heard);
-  given = giving (b .heard) e c x (b .given);
+  given = giving (hearing e c (b .heard)) e c w (b .given);
   live = living O e c (b .live);
 }
 
 -- ---- the run
 
--- the two states, the book, and the ids of the results and errors that the kiosk indicated so far
+-- what each end holds, the book, and the ids of the results and errors that the kiosk indicated so far
 pub record World : Type 0 where
-  pub kiosk : State
-  pub controller : State
+  pub kiosk : Held
+  pub controller : Held
   pub book : Book
   pub shown : List ℕ
 
-abbrev pub begin : State → World
+abbrev pub begin : Held → World
 begin s = record { kiosk = s; controller = s; book = emptyBook; shown = [] }
 
 -- the result or error that an indication shows
@@ -180,19 +208,19 @@ showing (some g) shown = shown ++ (g .id ∷ [])
 -- after a call that was answered so
 abbrev pub after : List ℕ → World → Event → Answer → World
 after O w (at kiosk c) a = record {
-  kiosk = stateAfter (w .kiosk) a;
+  kiosk = heldAfter (w .kiosk) a;
   controller = w .controller;
   book = note O (w .book) (at kiosk c) (isRefused a) (writtenBy a);
   shown = showing (shownBy (indicatedBy a)) (w .shown);
 }
 after O w (at controller c) a = record {
   kiosk = w .kiosk;
-  controller = stateAfter (w .controller) a;
+  controller = heldAfter (w .controller) a;
   book = note O (w .book) (at controller c) (isRefused a) (writtenBy a);
   shown = w .shown;
 }
 
--- each end keeps its table, O at the kiosk and N at the controller, and gives each call the state its last one returned
+-- each end keeps its table, O at the kiosk and N at the controller, and gives each call the state and the store as its last one left them
 module _ (O N : List ℕ) where
   unfoldable pub answerTo : World → Event → Answer
   answerTo w (at kiosk c) = perform O (w .kiosk) c

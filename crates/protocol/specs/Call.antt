@@ -1,11 +1,11 @@
 -- The six calls and what one answers: document 01, 'What is built' and 'Requests', and document 02's request Four, the place of a fault.
 use Prim.Native.Nat.{ℕ}
 use mathlib.Core.Bool.{Bool, true, false, cond, _&&_, _||_}
-use mathlib.Core.List.{List, []}
+use mathlib.Core.List.{List, [], _∷_, _++_}
 use mathlib.Core.Option.{Option, none}
 use lib.Dec.{eqb}
 use Rattle.codes.specs.declared.Code.{Code}
-use Rattle.records.specs.declared.State.{State}
+use Rattle.records.specs.Held.{Held}
 use Rattle.records.specs.Limits.{levels}
 use Rattle.ber.specs.Element.{place}
 use Rattle.apdu.specs.declared.Number.{Number}
@@ -51,9 +51,9 @@ pub data Refusal : Type 0 where
   plain : ℕ → Refusal
   rejecting : Number → ℕ → ℕ → Refusal
 
--- what a call answers: accepted with what it indicates, the new state and the octets that it wrote, or refused
+-- what a call answers: accepted with what it indicates, what the end then holds and the APDUs that it wrote, end to end, or refused
 pub data Answer : Type 0 where
-  accepted : Option Indication → State → List ℕ → Answer
+  accepted : Option Indication → Held → List (List ℕ) → Answer
   refused : Refusal → Answer
 
 abbrev pub refusalNumber : Refusal → ℕ
@@ -61,9 +61,9 @@ refusalNumber (plain n) = n
 refusalNumber (rejecting i kind problem) = 18
 
 -- a refusal writes nothing, except that 18 writes the Reject
-abbrev pub rejectWritten : Refusal → List ℕ
+abbrev pub rejectWritten : Refusal → List (List ℕ)
 rejectWritten (plain n) = []
-rejectWritten (rejecting i kind problem) = encodeReject i kind problem
+rejectWritten (rejecting i kind problem) = encodeReject i kind problem ∷ []
 
 abbrev pub isRefused : Answer → Bool
 isRefused (accepted i s x) = false
@@ -73,9 +73,18 @@ abbrev pub indicatedBy : Answer → Option Indication
 indicatedBy (accepted i s x) = i
 indicatedBy (refused r) = none
 
-abbrev pub writtenBy : Answer → List ℕ
-writtenBy (accepted i s x) = x
+-- each APDU written, in order
+abbrev pub writtenBy : Answer → List (List ℕ)
+writtenBy (accepted i s l) = l
 writtenBy (refused r) = rejectWritten r
+
+abbrev pub endToEnd : List (List ℕ) → List ℕ
+endToEnd [] = []
+endToEnd (x ∷ l) = x ++ endToEnd l
+
+-- the octets written
+abbrev pub octetsBy : Answer → List ℕ
+octetsBy a = endToEnd (writtenBy a)
 
 -- the refusals that name a place in the octets that a call was given: general 2, 9, 17 and 21
 abbrev pub namesPlace : Refusal → Bool
@@ -87,7 +96,7 @@ unfoldable pub placeNamed : List ℕ → Answer → ℕ
 placeNamed x (accepted i s w) = 0
 placeNamed x (refused r) = cond (namesPlace r) (place levels x) 0
 
--- a refusal hands back the same records
-abbrev pub stateAfter : State → Answer → State
-stateAfter s (accepted i t x) = t
-stateAfter s (refused r) = s
+-- a refusal hands back the same records, and changes no octet of the store
+abbrev pub heldAfter : Held → Answer → Held
+heldAfter s (accepted i t x) = t
+heldAfter s (refused r) = s

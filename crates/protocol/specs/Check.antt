@@ -8,13 +8,12 @@ use lib.Dec.{eqb, leb, ltb}
 use Rattle.codes.specs.declared.Code.{Code}
 use Rattle.codes.specs.declared.Code.the-variants.{Local}
 use Rattle.records.specs.declared.Record.{Record}
-use Rattle.records.specs.declared.State.{State}
 use Rattle.records.specs.declared.Found.{Found}
 use Rattle.records.specs.declared.Found.the-variants.{Operation, Nothing}
 use Rattle.records.specs.Limits.{octets, levels, records}
 use Rattle.records.specs.Records.{view, lookup}
 use Rattle.records.specs.Resting.{viewIds}
-use Rattle.records.specs.State.{soundState}
+use Rattle.records.specs.Held.{Held, soundHeld}
 use Rattle.ber.specs.declared.element.Finding.{Finding}
 use Rattle.ber.specs.declared.element.Finding.the-variants.{One}
 use Rattle.ber.specs.Element.{wellFormed, findingIn}
@@ -43,15 +42,15 @@ answer (c ∷ cs) a = cond (c .fails) (refused (c .why)) (answer cs a)
 
 -- ---- the records
 
-abbrev pub ownRecords : State → List Record
-ownRecords s = view (s .own)
+abbrev pub ownRecords : Held → List Record
+ownRecords s = view (s .state .own)
 
-abbrev pub peerRecords : State → List Record
-peerRecords s = view (s .peer)
+abbrev pub peerRecords : Held → List Record
+peerRecords s = view (s .state .peer)
 
 -- the own ids that rest
-abbrev pub restingIds : State → List ℕ
-restingIds s = viewIds (s .resting)
+abbrev pub restingIds : Held → List ℕ
+restingIds s = viewIds (s .state .resting)
 
 -- the record's operation code; 0 where there is no record
 abbrev pub codeFound : Found → Code
@@ -83,7 +82,7 @@ covered T [] = true
 covered T (r ∷ l) = listed (operationOf T (r .code)) && covered T l
 
 -- refusal 1: table not valid, or lacks a live record's code
-unfoldable pub usable : List ℕ → State → Bool
+unfoldable pub usable : List ℕ → Held → Bool
 usable T s = valid T && (covered T (ownRecords s) && covered T (peerRecords s))
 
 -- refusal 6: an own class 1 record is live
@@ -92,8 +91,8 @@ isBusy T [] = false
 isBusy T (r ∷ l) = eqb (classIn T (r .code)) 1 || isBusy T l
 
 -- 19 and 1 come first in every call
-abbrev pub shared : List ℕ → State → List Check
-shared T s = (19 ⇐ not (soundState s)) ∷ (1 ⇐ not (usable T s)) ∷ []
+abbrev pub shared : List ℕ → Held → List Check
+shared T s = (19 ⇐ not (soundHeld s)) ∷ (1 ⇐ not (usable T s)) ∷ []
 
 -- ---- linked ids
 
@@ -128,10 +127,6 @@ inBody = 2
 -- where x has at most 4,096 octets and is well-formed with 16 levels: proofs/Levels.antt, `invoke-within`, `result-within`, `error-within`
 unfoldable pub withinLimits : ℕ → Option (List ℕ) → List ℕ → Bool
 withinLimits down v x = leb (length x) octets && valueWell (levels - down) v
-
--- refusal 2 of receive: what the longest Reject takes
-abbrev pub leastRoom : ℕ
-leastRoom = 11
 
 -- refusal 2 of a request: output shorter than the APDU
 abbrev pub tooShort : ℕ → List ℕ → Bool

@@ -8,14 +8,13 @@ use mathlib.Core.Option.{some}
 use Rattle.codes.specs.declared.Code.{Code}
 use Rattle.codes.specs.declared.Code.the-variants.{Local, Global}
 use Rattle.records.specs.Numbers.{among, eachOnce}
-use Rattle.records.specs.State.{fresh}
+use Rattle.records.specs.Held.{freshHeld}
 use Rattle.records.specs.Records.{idsOf}
 use Rattle.optable.specs.Validity.{valid}
-use Rattle.optable.specs.Lookup.{Extends, paired, errorOf, known}
+use Rattle.optable.specs.Lookup.{Extends, paired, errorOf, known, roomNeeded}
 use Rattle.apdu.specs.declared.Number.{Number}
 use Rattle.apdu.specs.declared.Number.the-variants.{Of, Absent}
 use Rattle.protocol.specs.Call.{Call, receive, invoke, result, error, reject, forget, rejecting, Answer, refused, isRefused, indicatedBy}
-use Rattle.protocol.specs.Check.{leastRoom}
 use Rattle.protocol.specs.Book.{End, kiosk, controller, other, Event, at, Given, Wired, wired, Answered, Book, World, begin, shownBy, answerTo, Along, final}
 
 -- ---- premises
@@ -51,19 +50,19 @@ Carried wire e (error i d v room) = Unit {0}
 Carried wire e (reject i p room) = Unit {0}
 Carried wire e (forget side i) = Unit {0}
 
--- 'The kiosk .. lends receive at least 11 output octets.'
-abbrev pub Lends : End → Call → Type 0
-Lends kiosk (receive x room) = leastRoom ≤ room
-Lends kiosk (invoke i c l v room) = Unit {0}
-Lends kiosk (result i v room) = Unit {0}
-Lends kiosk (error i e v room) = Unit {0}
-Lends kiosk (reject i p room) = Unit {0}
-Lends kiosk (forget side i) = Unit {0}
-Lends controller c = Unit {0}
+-- 'The kiosk lends what receive needs', by its table: 528, 16 or 11 output octets.
+abbrev pub Lends : List ℕ → End → Call → Type 0
+Lends O kiosk (receive x room) = roomNeeded O ≤ room
+Lends O kiosk (invoke i c l v room) = Unit {0}
+Lends O kiosk (result i v room) = Unit {0}
+Lends O kiosk (error i e v room) = Unit {0}
+Lends O kiosk (reject i p room) = Unit {0}
+Lends O kiosk (forget side i) = Unit {0}
+Lends O controller c = Unit {0}
 
 -- what is asked of each call of the list
-abbrev pub Fair : World → Event → Type 0
-Fair w (at e c) = InRange c × Carried (w .book .wire) e c × Lends e c
+abbrev pub Fair : List ℕ → World → Event → Type 0
+Fair O w (at e c) = InRange c × Carried (w .book .wire) e c × Lends O e c
 
 -- 'The kiosk uses an id for one accepted invocation only.'
 abbrev pub UsesIdsOnce : World → Type 0
@@ -115,12 +114,12 @@ Claim O N w (at kiosk c) = KioskClaim O (w .book) c (answerTo O N w (at kiosk c)
 Claim O N w (at controller c) = Unit {0}
 
 pub record Conclusion (O N : List ℕ) (l : List Event) : Type 0 where
-  pub each : Along O N (Claim O N) (begin fresh) l
+  pub each : Along O N (Claim O N) (begin freshHeld) l
   -- 'no invocation gets two'
-  pub once : eachOnce (final O N (begin fresh) l .shown) ≡ true
+  pub once : eachOnce (final O N (begin freshHeld) l .shown) ≡ true
 
 -- 'Take a kiosk with table O and a controller with table N, both valid, N extending O, and every list of the six calls at either end,
 -- each answered as demand 2 says, refused ones included, both ends fresh at first.'
 abbrev pub Demand3 : Type 0
 Demand3 = (O N : List ℕ) → valid O ≡ true → valid N ≡ true → Extends N O → (l : List Event)
-    → Along O N Fair (begin fresh) l → UsesIdsOnce (final O N (begin fresh) l) → Conclusion O N l
+    → Along O N (Fair O) (begin freshHeld) l → UsesIdsOnce (final O N (begin freshHeld) l) → Conclusion O N l

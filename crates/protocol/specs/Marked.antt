@@ -6,12 +6,12 @@ use mathlib.Core.Option.{some, none}
 use Rattle.codes.specs.declared.Code.{Code}
 use Rattle.codes.specs.declared.Code.the-variants.{Local}
 use Rattle.records.specs.declared.Record.{Record}
-use Rattle.records.specs.declared.State.{State}
-use Rattle.records.specs.State.{fresh, addOwn, addPeer}
+use Rattle.records.specs.State.{addOwn, addPeer}
+use Rattle.records.specs.Held.{Held, freshHeld, inState}
 use Rattle.apdu.specs.declared.Number.{Number}
 use Rattle.apdu.specs.declared.Number.the-variants.{Of, Absent}
 use Rattle.apdu.specs.declared.CodeField.the-variants.{Is}
-use Rattle.protocol.specs.Call.{Call, receive, invoke, resulted, erred, plain, rejecting, Answer, accepted, refused, writtenBy, stateAfter}
+use Rattle.protocol.specs.Call.{Call, receive, invoke, resulted, erred, plain, rejecting, Answer, accepted, refused, octetsBy, heldAfter}
 use Rattle.protocol.specs.Check.{ownRecords, peerRecords}
 use Rattle.protocol.specs.Perform.{perform}
 
@@ -28,19 +28,19 @@ abbrev seven : Code
 seven = Local 7
 
 -- own record (5, 7) is live
-abbrev ownFive : State
-ownFive = addOwn fresh (record { 0 = 5 }) seven
+abbrev ownFive : Held
+ownFive = inState freshHeld (addOwn (freshHeld .state) (record { 0 = 5 }) seven)
 
 -- peer record 5 is live
-abbrev peerFive : State
-peerFive = addPeer fresh (record { 0 = 5 }) seven
+abbrev peerFive : Held
+peerFive = inState freshHeld (addPeer (freshHeld .state) (record { 0 = 5 }) seven)
 
 abbrev five : List Record
 five = record { id = 5; code = seven } ∷ []
 
 -- a call on a state: its answer, the own and the peer records afterwards, and the octets that it wrote
 pub record Example : Type 0 where
-  pub state : State
+  pub state : Held
   pub call : Call
   pub answer : Answer
   pub owns : List Record
@@ -62,19 +62,19 @@ abbrev pub examples : List Example
 examples =
     -- P1
     record {
-      state = fresh;
+      state = freshHeld;
       call = invoke 5 seven Absent (0x02 ∷ 0x01 ∷ 0x03 ∷ []) 11;
-      answer = accepted none ownFive invokeApdu;
+      answer = accepted none ownFive (invokeApdu ∷ []);
       owns = five;
       peers = [];
       writes = invokeApdu;
     }
     -- P2: result, value 02 01 00, the last three of the 13 octets
     ∷ received (0xA2 ∷ 0x0B ∷ 0x02 ∷ 0x01 ∷ 0x05 ∷ 0x30 ∷ 0x06 ∷ 0x02 ∷ 0x01 ∷ 0x07 ∷ 0x02 ∷ 0x01 ∷ 0x00 ∷ [])
-    (accepted (some (resulted 5 (some (record { code = Is seven; value = record { at = 10; end = 13; octets = 0x02 ∷ 0x01 ∷ 0x00 ∷ [] } })) seven)) fresh []) [] []
+    (accepted (some (resulted 5 (some (record { code = Is seven; value = record { at = 10; end = 13; octets = 0x02 ∷ 0x01 ∷ 0x00 ∷ [] } })) seven)) freshHeld []) [] []
     -- P3: error 1, no value
     ∷ received (0xA3 ∷ 0x06 ∷ 0x02 ∷ 0x01 ∷ 0x05 ∷ 0x02 ∷ 0x01 ∷ 0x01 ∷ [])
-    (accepted (some (erred 5 (Local 1) none seven)) fresh []) [] []
+    (accepted (some (erred 5 (Local 1) none seven)) freshHeld []) [] []
     -- P4
     ∷ rejected (0xA2 ∷ 0x03 ∷ 0x02 ∷ 0x01 ∷ 0x05 ∷ []) (Of 5) 0x82 2 (0xA4 ∷ 0x06 ∷ 0x02 ∷ 0x01 ∷ 0x05 ∷ 0x82 ∷ 0x01 ∷ 0x02 ∷ [])
     -- P5
@@ -109,9 +109,9 @@ performed e = record {
   state = e .state;
   call = e .call;
   answer = perform tableT (e .state) (e .call);
-  owns = ownRecords (stateAfter (e .state) (perform tableT (e .state) (e .call)));
-  peers = peerRecords (stateAfter (e .state) (perform tableT (e .state) (e .call)));
-  writes = writtenBy (perform tableT (e .state) (e .call));
+  owns = ownRecords (heldAfter (e .state) (perform tableT (e .state) (e .call)));
+  peers = peerRecords (heldAfter (e .state) (perform tableT (e .state) (e .call)));
+  writes = octetsBy (perform tableT (e .state) (e .call));
 }
 
 -- P1 to P12 hold of the written definitions

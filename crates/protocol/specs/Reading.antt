@@ -4,7 +4,7 @@ use mathlib.Core.Path.{_≡_}
 use mathlib.Core.List.{List, _++_}
 use mathlib.Core.Option.{some, none}
 use lib.ListN.{length, drop}
-use Rattle.records.specs.declared.State.{State}
+use Rattle.records.specs.Held.{Held}
 use Rattle.apdu.specs.Reading.{readOwnLink, readValue, readBody}
 use Rattle.protocol.specs.declared.Invocation.{Invocation}
 use Rattle.protocol.specs.declared.Invocation.the-variants.{Own, Peer}
@@ -14,12 +14,12 @@ use Rattle.protocol.specs.declared.Refusal.{Refusal as Reason}
 use Rattle.protocol.specs.declared.Refusal.the-variants.{InvalidTable, ShortOutput, LongInput, UnknownOperation, IdInUse, SynchronousLive, UnknownLinkedId, NotAChild, MalformedValue, MistypedValue, NoRecord, WrongClass, UnlistedError, RecordsFull, LargeApdu, WrongProblem, UnacceptableReject, Rejected, UnsoundState, TrailingOctets, IdResting}
 use Rattle.protocol.specs.declared.Problem.{Problem}
 use Rattle.protocol.specs.declared.Reception.{Reception}
-use Rattle.protocol.specs.declared.Reception.the-variants.{Indicated as Accepting, Refused as Refusing}
+use Rattle.protocol.specs.declared.Reception.the-variants.{Indicated as Accepting, Answered as Answering, Refused as Refusing}
 use Rattle.protocol.specs.declared.Received.{Received}
 use Rattle.protocol.specs.declared.Outcome.{Outcome}
 use Rattle.protocol.specs.declared.Outcome.the-variants.{Accepted, Refused}
 use Rattle.protocol.specs.declared.Requested.{Requested}
-use Rattle.protocol.specs.Call.{Call, own, peer, forget, Indication, invoked, resulted, erred, rejectedU, rejectedP, Refusal, plain, rejecting, Answer, accepted, refused, writtenBy, placeNamed, stateAfter}
+use Rattle.protocol.specs.Call.{Call, own, peer, forget, Indication, invoked, resulted, erred, rejectedU, rejectedP, Refusal, plain, rejecting, Answer, accepted, refused, writtenBy, octetsBy, placeNamed, heldAfter}
 
 -- ---- ids
 
@@ -69,31 +69,32 @@ abbrev pub refusalProblem : Refusal → Problem
 refusalProblem (plain n) = record { kind = 0; number = 0 }
 refusalProblem (rejecting i kind problem) = record { kind = kind; number = problem }
 
--- ---- answers: with the state and the octets written beside
+-- ---- answers: with what the end then holds and the APDUs written beside
 
-unfoldable pub readReception : List ℕ → Reception → State → List ℕ → Answer
+unfoldable pub readReception : List ℕ → Reception → Held → List (List ℕ) → Answer
 readReception x (Accepting i) s w = accepted (some (readIndication x i)) s w
+readReception x Answering s w = accepted none s w
 readReception x (Refusing r) s w = refused (readRefusal r)
 
-unfoldable pub readOutcome : Outcome → State → List ℕ → Answer
+unfoldable pub readOutcome : Outcome → Held → List (List ℕ) → Answer
 readOutcome Accepted s w = accepted none s w
 readOutcome (Refused r) s w = refused (readRefusal r)
 
--- ---- promises: the answer a is given, with the state after it and the place that it names in the octets x that the call was given, and the
--- output is what a writes, then what stood behind
+-- ---- promises: the answer a is given, with the state and the store after it and the place that it names in the octets x that the call was given,
+-- and the output is what a writes, then what stood behind
 
 pub record Written (a : Answer) (before after : List ℕ) (count : ℕ) : Type 0 where
-  pub octets : after ≡ writtenBy a ++ drop (length (writtenBy a)) before
-  pub counted : count ≡ length (writtenBy a)
+  pub octets : after ≡ octetsBy a ++ drop (length (octetsBy a)) before
+  pub counted : count ≡ length (octetsBy a)
 
-pub record ReceivePromise (a : Answer) (s : State) (x before after : List ℕ) (r : Received) : Type 0 where
-  pub answers : readReception x (r .reception) (stateAfter s a) (writtenBy a) ≡ a
-  pub state : r .state ≡ stateAfter s a
+pub record ReceivePromise (a : Answer) (s : Held) (store x before after : List ℕ) (r : Received) : Type 0 where
+  pub answers : readReception x (r .reception) (heldAfter s a) (writtenBy a) ≡ a
+  pub holds : record { state = r .state; store = store } ≡ heldAfter s a
   pub written : Written a before after (r .written)
   pub place : r .place ≡ placeNamed x a
 
-pub record RequestPromise (a : Answer) (s : State) (x before after : List ℕ) (r : Requested) : Type 0 where
-  pub answers : readOutcome (r .outcome) (stateAfter s a) (writtenBy a) ≡ a
-  pub state : r .state ≡ stateAfter s a
+pub record RequestPromise (a : Answer) (s : Held) (store x before after : List ℕ) (r : Requested) : Type 0 where
+  pub answers : readOutcome (r .outcome) (heldAfter s a) (writtenBy a) ≡ a
+  pub holds : record { state = r .state; store = store } ≡ heldAfter s a
   pub written : Written a before after (r .written)
   pub place : r .place ≡ placeNamed x a

@@ -1,4 +1,4 @@
--- Receiving, in order of check, behind 19, 1, 3 and 2: document 01, 'Receiving, in order of check', steps 1 to 5.
+-- Receiving, in order of check, behind 19, 1, 3 and 2: document 01, 'Receiving, in order of check', steps 1 to 5; document 02, Seven.
 use Prim.Native.Nat.{ℕ}
 use mathlib.Core.Bool.{Bool, false, cond, not, _&&_}
 use mathlib.Core.List.{List, [], _∷_}
@@ -7,12 +7,15 @@ use lib.ListN.{getD}
 use lib.Dec.{eqb}
 use Rattle.codes.specs.declared.Code.{Code}
 use Rattle.codes.specs.declared.Code.the-variants.{Local}
-use Rattle.records.specs.declared.State.{State}
 use Rattle.codes.specs.Code.{sameCode}
 use Rattle.records.specs.Records.{member}
 use Rattle.records.specs.State.{addPeer, retireOwn}
+use Rattle.records.specs.Held.{Held, inState, dropAnswer}
 use Rattle.optable.specs.Lookup.{operationOf, listed, argumentOf, resultOf, errorOf, known, parameterOf, paired, childOf, hasChild}
 use Rattle.optable.specs.Value.{valueRight}
+use Rattle.optable.specs.declared.Service.{Service}
+use Rattle.optable.specs.declared.Service.the-variants.{Probe, Acknowledge, Ordinary}
+use Rattle.optable.specs.Service.{serviceOf, answersItself}
 use Rattle.apdu.specs.declared.Number.{Number}
 use Rattle.apdu.specs.declared.Number.the-variants.{Of, Absent}
 use Rattle.apdu.specs.declared.CodeField.{CodeField}
@@ -21,6 +24,7 @@ use Rattle.apdu.specs.Field.{Part, octetsOf}
 use Rattle.apdu.specs.Parse.{CodedValue, bodyValue, Apdu, badlyStructured, unrecognized, mistyped, invoke, result, error, reject}
 use Rattle.protocol.specs.Call.{Indication, invoked, resulted, erred, rejectedU, rejectedP, Refusal, plain, rejecting, Answer, accepted, refused}
 use Rattle.protocol.specs.Check.{Check, answer, ownRecords, peerRecords, codeIn, isFull, classIn, isSilent, isClass, isLinked, linkedTo}
+use Rattle.protocol.specs.Service.{about, insideRight, probed, acknowledged}
 
 -- a code that is none of the table's counts as 0 where it is not asked for
 abbrev pub fieldCode : CodeField → Code
@@ -55,7 +59,7 @@ fault x p i = cond (eqb (getD x 0 0) 0xA4) (plain 17) (rejecting i 0x80 p)
 
 -- ---- step 3: Invoke
 
-unfoldable pub invokeChecks : List ℕ → State → ℕ → Number → CodeField → Option Part → List Check
+unfoldable pub invokeChecks : List ℕ → Held → ℕ → Number → CodeField → Option Part → List Check
 invokeChecks T s i l c v =
     -- duplicateInvocation: id among peer records
     problem 0x81 i 0 (member i (peerRecords s))
@@ -65,21 +69,32 @@ invokeChecks T s i l c v =
     ∷ problem 0x81 i 6 (isLinked l && not (hasChild T (codeIn (ownRecords s) (linkedTo l))))
     -- unrecognizedOperation
     ∷ problem 0x81 i 1 (not (isOperation T c))
-    -- mistypedArgument
-    ∷ problem 0x81 i 2 (not (valueRight (argumentOf (operationOf T (fieldCode c))) (octetsOf v)))
+    -- mistypedArgument, the inside of a probe's or an acknowledge's included
+    ∷ problem 0x81 i 2 (not (valueRight (argumentOf (operationOf T (fieldCode c))) (octetsOf v) && insideRight (serviceOf (fieldCode c)) (octetsOf v)))
     -- unexpectedLinkedOperation
     ∷ problem 0x81 i 7 (isLinked l && not (childOf T (codeIn (ownRecords s) (linkedTo l)) (fieldCode c)))
-    -- resourceLimitation: 32 peer records, class not 5
-    ∷ problem 0x81 i 3 (not (isSilent T (fieldCode c)) && isFull (peerRecords s))
+    -- resourceLimitation: 32 peer records, class not 5; never for a probe or an acknowledge
+    ∷ problem 0x81 i 3 (not (answersItself (serviceOf (fieldCode c))) && (not (isSilent T (fieldCode c)) && isFull (peerRecords s)))
     ∷ []
 
 -- an accepted invoke adds a peer record unless class 5
-abbrev pub withPeer : List ℕ → State → ℕ → Code → State
-withPeer T s i c = cond (isSilent T c) s (addPeer s (record { 0 = i }) c)
+abbrev pub withPeer : List ℕ → Held → ℕ → Code → Held
+withPeer T s i c = cond (isSilent T c) s (inState s (addPeer (s .state) (record { 0 = i }) c))
+
+-- probe and acknowledge are answered and not indicated; any other accepted invoke drops the kept answer of its id
+unfoldable pub invokeDone : List ℕ → Held → ℕ → Number → Code → Option Part → Service → Answer
+invokeDone T s i l c v Probe = accepted none s (probed s i (linkedTo (about Probe (octetsOf v))))
+invokeDone T s i l c v Acknowledge =
+    accepted none (dropAnswer s (record { 0 = linkedTo (about Acknowledge (octetsOf v)) })) (acknowledged s i (linkedTo (about Acknowledge (octetsOf v))))
+invokeDone T s i l c v Ordinary = accepted (some (invoked i l c v)) (dropAnswer (withPeer T s i c) (record { 0 = i })) []
+
+-- an own record is retired
+abbrev pub withoutOwn : Held → ℕ → Held
+withoutOwn s i = inState s (retireOwn (s .state) (record { 0 = i }))
 
 -- ---- step 4: Result
 
-unfoldable pub resultChecks : List ℕ → State → ℕ → Option CodedValue → List Check
+unfoldable pub resultChecks : List ℕ → Held → ℕ → Option CodedValue → List Check
 resultChecks T s i b =
     -- unrecognizedInvocation: no own record
     problem 0x82 i 0 (not (member i (ownRecords s)))
@@ -93,7 +108,7 @@ resultChecks T s i b =
 
 -- ---- step 5: Error
 
-unfoldable pub errorChecks : List ℕ → State → ℕ → CodeField → Option Part → List Check
+unfoldable pub errorChecks : List ℕ → Held → ℕ → CodeField → Option Part → List Check
 errorChecks T s i e v =
     -- unrecognizedInvocation: no own record
     problem 0x83 i 0 (not (member i (ownRecords s)))
@@ -110,9 +125,9 @@ errorChecks T s i e v =
 -- ---- Reject
 
 -- an invoke problem retires the own record of its id if there is one; other Rejects change no record
-abbrev pub retiredBy : State → Number → ℕ → State
+abbrev pub retiredBy : Held → Number → ℕ → Held
 retiredBy s Absent kind = s
-retiredBy s (Of i) kind = cond (eqb kind 0x81) (retireOwn s (record { 0 = i })) s
+retiredBy s (Of i) kind = cond (eqb kind 0x81) (withoutOwn s i) s
 
 -- general ones are indicated as RO-REJECT-P, others as RO-REJECT-U
 abbrev pub rejection : Number → ℕ → ℕ → Indication
@@ -121,14 +136,14 @@ rejection (Of i) kind p = cond (eqb kind 0x80) (rejectedP (Of i) p) (rejectedU i
 
 -- ---- by kind; an accepted result or error retires exactly the own record of its id
 
-unfoldable pub receiveApdu : List ℕ → State → List ℕ → Apdu → Answer
+unfoldable pub receiveApdu : List ℕ → Held → List ℕ → Apdu → Answer
 receiveApdu T s x (badlyStructured p) = refused (fault x 2 Absent)
 receiveApdu T s x unrecognized = refused (fault x 0 Absent)
 receiveApdu T s x (mistyped i) = refused (fault x 1 i)
 receiveApdu T s x (invoke i l c v) =
-    answer (invokeChecks T s i l c v) (accepted (some (invoked i l (fieldCode c) v)) (withPeer T s i (fieldCode c)) [])
+    answer (invokeChecks T s i l c v) (invokeDone T s i l (fieldCode c) v (serviceOf (fieldCode c)))
 receiveApdu T s x (result i b) =
-    answer (resultChecks T s i b) (accepted (some (resulted i b (codeIn (ownRecords s) i))) (retireOwn s (record { 0 = i })) [])
+    answer (resultChecks T s i b) (accepted (some (resulted i b (codeIn (ownRecords s) i))) (withoutOwn s i) [])
 receiveApdu T s x (error i e v) =
-    answer (errorChecks T s i e v) (accepted (some (erred i (fieldCode e) v (codeIn (ownRecords s) i))) (retireOwn s (record { 0 = i })) [])
+    answer (errorChecks T s i e v) (accepted (some (erred i (fieldCode e) v (codeIn (ownRecords s) i))) (withoutOwn s i) [])
 receiveApdu T s x (reject i kind p) = accepted (some (rejection i kind p)) (retiredBy s i kind) []

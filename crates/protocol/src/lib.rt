@@ -146,6 +146,8 @@ impl Refusal {
 
 pub enum Reception {
     Indicated(Indication),
+    // A probe or an acknowledge, which nobody is told of: what it is answered stands at the front of the output.
+    Answered,
     Refused(Refusal),
 }
 

@@ -62,6 +62,13 @@ among-left i (x ∷ l) =
     let rest = among-left i l in
     cond-elim (λ (m : List ℕ). among i m ≡ false) (eqb x i) (leaving i l) (x ∷ leaving i l) (λ _. rest) (λ e. rw e rest)
 
+pub once-leaving : (i : ℕ) (l : List ℕ) → eachOnce l ≡ true → eachOnce (leaving i l) ≡ true
+once-leaving i [] h = refl
+once-leaving i (x ∷ l) h =
+    let rest = once-leaving i l (and-right (not (among x l)) (eachOnce l) h) in
+    cond-elim (λ (m : List ℕ). eachOnce m ≡ true) (eqb x i) (leaving i l) (x ∷ leaving i l) (λ _. rest)
+    (λ _. rw (among-leaving x i l (not-true (among x l) (and-left _ _ h))) rest)
+
 -- ---- two lists that share none
 
 same-either-way : (x y : ℕ) → eqb x y ≡ eqb y x

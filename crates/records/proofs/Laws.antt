@@ -14,7 +14,7 @@ use Rattle.records.specs.declared.Record.{Record}
 use Rattle.records.specs.declared.Found.the-variants.{Operation, Nothing}
 use Rattle.records.specs.Numbers.{leaving}
 use Rattle.records.specs.Records.{lookup, idsOf, member, without, distinct, formed}
-use Rattle.records.proofs.IdLaws.{among-added, once-added, among-leaving, among-left}
+use Rattle.records.proofs.IdLaws.{among-added, once-added, among-leaving, among-left, once-leaving}
 
 operation-nothing : {k : Code} → Operation k ≡ Nothing → ⊥
 operation-nothing {k} e =
@@ -129,11 +129,7 @@ pub member-gone : (n : ℕ) (l : List Record) → member n (without n l) ≡ fal
 member-gone n l = rw (ids-without n l) (among-left n (idsOf l))
 
 pub distinct-without : (n : ℕ) (l : List Record) → distinct l ≡ true → distinct (without n l) ≡ true
-distinct-without n [] h = refl
-distinct-without n (r ∷ l) h =
-    let rest = distinct-without n l (tail-distinct r l h) in
-    without-cases (λ x. distinct x ≡ true) n r l (λ _. rest)
-    (λ _. rw (member-without n (r .id) l (head-once r l h)) rest)
+distinct-without n l h = rw (ids-without n l) (once-leaving n (idsOf l) h)
 
 pub formed-without : (n : ℕ) (l : List Record) → formed l ≡ true → formed (without n l) ≡ true
 formed-without n [] h = refl

@@ -115,7 +115,7 @@ pub record SoundResting (owns : List Record) (r : Resting) : Type 0 where
   pub apart : (i : ℕ) → among i (viewIds r) ≡ true → member i owns ≡ false
   pub packed : r ≡ packIds (viewIds r)
 
-none-live : (owns : List Record) (l : List ℕ) → ((i : ℕ) → among i l ≡ true → member i owns ≡ false) → noneAmong l (idsOf owns) ≡ true
+pub none-live : (owns : List Record) (l : List ℕ) → ((i : ℕ) → among i l ≡ true → member i owns ≡ false) → noneAmong l (idsOf owns) ≡ true
 none-live owns [] h = refl
 none-live owns (x ∷ l) h =
     rw (h x (or-true-left (eqb x x) (among x l) (eq-eqb x x refl))) (none-live owns l (λ i m. h i (or-true-right (eqb x i) (among i l) m)))

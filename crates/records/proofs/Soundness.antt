@@ -13,16 +13,19 @@ use Rattle.codes.specs.Code.{sameCode, codeRight}
 use Rattle.codes.proofs.CodeLaws.{same-code-equal}
 use Rattle.records.specs.declared.Record.{Record}
 use Rattle.records.specs.declared.Records.{Records}
-use Rattle.records.specs.declared.State.{State}
-use Rattle.records.specs.Limits.{records, resting}
+use Rattle.records.specs.Limits.{records, resting, answers}
 use Rattle.records.specs.Records.{unused, places, side, view, pack, member, without, distinct, formed, blank, soundRecords, added, retired}
-use Rattle.records.specs.Resting.{packIds, viewIds}
-use Rattle.records.specs.State.{fresh, soundState}
+use Rattle.records.specs.Resting.{packIds, viewIds, soundResting}
+use Rattle.records.specs.Kept.{soundKept}
+use Rattle.records.specs.Held.{Held, freshHeld, soundHeld, inState, keptAnswers, keepThese}
 use Rattle.records.proofs.IdLaws.{one-less}
 use Rattle.records.proofs.Stored.{Storable, storable-rows, storable-take, storable-without, storable-append, storable-unused, storable-formed}
 use Rattle.records.proofs.Rows.{Even, rows-length, rows-side, side-back, view-pack}
 use Rattle.records.proofs.Laws.{distinct-added, distinct-without, formed-added, formed-without, without-shorter, without-absent}
 use Rattle.records.proofs.RestingLaws.{SoundResting, resting-test, resting-is-packed, none-rests}
+use Rattle.records.proofs.KeptLaws.{none-kept}
+use Rattle.records.proofs.StoreLaws.{SoundStore, store-test, packed-store}
+use Rattle.records.proofs.PackedLaws.{store-of-test}
 
 -- ---- the list and the side that holds it
 
@@ -137,29 +140,37 @@ module _ {s : Records} (h : Sound s) where
   pub retired-absent : (n : ℕ) → member n (view s) ≡ false → retired s n ≡ s
   retired-absent n gone = ap pack (without-absent n (view s) gone) ∙ sym (h .packed)
 
--- ---- a sound state: each law is the law of a part
+-- ---- what an end holds is sound: each law is the law of a part
 
-pub record SoundParts (s : State) : Type 0 where
-  pub own : Sound (s .own)
-  pub peer : Sound (s .peer)
-  pub resting : SoundResting (view (s .own)) (s .resting)
+pub record SoundParts (s : Held) : Type 0 where
+  pub own : Sound (s .state .own)
+  pub peer : Sound (s .state .peer)
+  pub resting : SoundResting (view (s .state .own)) (s .state .resting)
+  pub kept : SoundStore (view (s .state .peer)) (s .state .kept) (s .store)
 
-pub fresh-is-sound : SoundParts fresh
+pub fresh-is-sound : SoundParts freshHeld
 fresh-is-sound =
     let side = packed-is-sound [] (omega arith) refl refl in
-    record { own = side; peer = side; resting = none-rests [] }
+    record { own = side; peer = side; resting = none-rests []; kept = packed-store [] (none-kept []) }
 
-module _ {s : State} (h : SoundParts s) where
-  pub sound-state : soundState s ≡ true
-  sound-state = and-true (h .own .test) (and-true (h .peer .test) (resting-test (h .resting)))
+module _ {s : Held} (h : SoundParts s) where
+  pub sound-state : soundHeld s ≡ true
+  sound-state = and-true (h .own .test) (and-true (h .peer .test) (and-true (resting-test (h .resting)) (store-test (h .kept))))
 
--- validates `soundState`: where each field has its places, as it has in code, a sound state is its lists with unused places behind
-pub sound-state-packed : (s : State) → length (s .own .ids) ≡ records → Even (s .own) → length (s .peer .ids) ≡ records → Even (s .peer) → length (s .resting .ids) ≡ resting
-    → soundState s ≡ true → s ≡ record { own = pack (view (s .own)); peer = pack (view (s .peer)); resting = packIds (viewIds (s .resting)) }
-sound-state-packed s p q u v w h =
-    let behind = and-right (soundRecords (s .own)) _ h in
-    let own = sound-is-packed (s .own) p q (and-left (soundRecords (s .own)) _ h) in
-    let peer = sound-is-packed (s .peer) u v (and-left (soundRecords (s .peer)) _ behind) in
-    let rest = resting-is-packed (view (s .own)) (s .resting) w (and-right (soundRecords (s .peer)) _ behind) in
-    let e : _≡_ {A = State} (record { own = s .own; peer = s .peer; resting = s .resting }) (record { own = pack (view (s .own)); peer = pack (view (s .peer)); resting = packIds (viewIds (s .resting)) }) = cc in
-    e
+-- the kept answers of a sound state are sound beside its peer records
+pub held-kept-sound : (s : Held) → soundHeld s ≡ true → soundKept (view (s .state .peer)) (s .state .kept) (s .store) ≡ true
+held-kept-sound s h =
+    and-right (soundResting (view (s .state .own)) (s .state .resting)) _ (and-right (soundRecords (s .state .peer)) _ (and-right (soundRecords (s .state .own)) _ h))
+
+-- validates `soundState`: where each field has its places, as it has in code, a sound state and its store are their lists with unused places behind
+pub sound-state-packed : (s : Held) → length (s .state .own .ids) ≡ records → Even (s .state .own) → length (s .state .peer .ids) ≡ records → Even (s .state .peer)
+    → length (s .state .resting .ids) ≡ resting → length (s .state .kept .ids) ≡ answers → length (s .state .kept .lengths) ≡ answers → soundHeld s ≡ true
+    → s ≡ keepThese (inState s (record { own = pack (view (s .state .own)); peer = pack (view (s .state .peer)); resting = packIds (viewIds (s .state .resting)); kept = s .state .kept })) (keptAnswers s)
+sound-state-packed s p q u v w i j h =
+    let behind = and-right (soundRecords (s .state .own)) _ h in
+    let last = and-right (soundRecords (s .state .peer)) _ behind in
+    let own = sound-is-packed (s .state .own) p q (and-left (soundRecords (s .state .own)) _ h) in
+    let peer = sound-is-packed (s .state .peer) u v (and-left (soundRecords (s .state .peer)) _ behind) in
+    let rest = resting-is-packed (view (s .state .own)) (s .state .resting) w (and-left _ _ last) in
+    let kept = store-of-test (view (s .state .peer)) (s .state .kept) (s .store) i j (held-kept-sound s h) in
+    λ t. record { state = record { own = own t; peer = peer t; resting = rest t; kept = kept .packed t }; store = kept .filled t }

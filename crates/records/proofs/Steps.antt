@@ -41,7 +41,7 @@ pack-even l =
 
 -- ---- whether the places from i on are unused
 
-no-bit : (a b : ℕ) → eqb (bitOr a b) 0 ≡ (eqb a 0 && eqb b 0)
+pub no-bit : (a b : ℕ) → eqb (bitOr a b) 0 ≡ (eqb a 0 && eqb b 0)
 no-bit a b = go (eqb a 0) refl (eqb b 0) refl
   where
     go : (x : Bool) → eqb a 0 ≡ x → (y : Bool) → eqb b 0 ≡ y → eqb (bitOr a b) 0 ≡ (x && y)

@@ -1,4 +1,6 @@
-// The records of one side, the invocations that are live: document 01, 'Records'; document 02, Five. Both sides and the ids that rest are the state, in sides.rt.
+// The records of one side, the invocations that are live: document 01, 'Records'; document 02, Five. Both sides, the ids that rest and the kept answers are
+// the state, in sides.rt.
+pub mod answers;
 mod fields;
 pub mod lent;
 pub mod rest;
@@ -38,10 +40,19 @@ pub struct Resting {
     pub ids: [u32; State::RESTING],
 }
 
+// The ids and lengths of the kept answers, oldest first: document 02, Seven. Their octets, 512 for each, stand in the store, which is lent beside the state.
+// Places from `count` on are unused.
+pub struct Kept {
+    pub count: usize,
+    pub ids: [u32; State::ANSWERS],
+    pub lengths: [u32; State::ANSWERS],
+}
+
 pub struct State {
     pub own: Records,
     pub peer: Records,
     pub resting: Resting,
+    pub kept: Kept,
 }
 
 pub enum Found {

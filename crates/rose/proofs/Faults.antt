@@ -9,7 +9,7 @@ use types.Run.{OneOf}
 use denote.Enum.Declared.{tagOf}
 use Rattle.base.proofs.Keys.{no-key}
 use Rattle.base.proofs.Tests.{cond-elim, cond-false}
-use Rattle.records.specs.declared.State.{State}
+use Rattle.records.specs.Held.{Held}
 use Rattle.records.specs.Limits.{levels}
 use Rattle.ber.specs.Element.{wellFormed, place}
 use Rattle.ber.proofs.FaultLaws.{no-place}
@@ -49,7 +49,7 @@ parse-wrong : (x : List ℕ) → wellFormed levels x ≡ false → parse x ≡ b
 unfolding parse
 parse-wrong x q = sym (cond-false _ _ q)
 
-pub received-place : (T : List ℕ) (s : State) (x : List ℕ) → faultIn (parse x) ≡ placeNamed x (receiveApdu T s x (parse x))
+pub received-place : (T : List ℕ) (s : Held) (x : List ℕ) → faultIn (parse x) ≡ placeNamed x (receiveApdu T s x (parse x))
 unfolding receiveApdu
 received-place T s x = go (wellFormed levels x) refl
   where

@@ -4,6 +4,9 @@ mod WalkAnswers
 mod PartAnswers
 mod Arrivals
 mod Written
+mod ReplyAnswers
+mod ChangeAnswers
+mod ReceptionAnswers
 mod Calls
 mod Faults
 mod ReceiveLaws

@@ -9,7 +9,7 @@ use borrow.Author.Tests.{eq-eqb, ne-eqb, not-false}
 use Rattle.base.proofs.Tests.{cond-true, cond-false, or-true-left, or-true-right, or-cases}
 use Rattle.codes.specs.declared.Code.{Code}
 use Rattle.records.specs.declared.Record.{Record}
-use Rattle.records.specs.declared.State.{State}
+use Rattle.records.specs.Held.{Held}
 use Rattle.records.specs.declared.Found.{Found}
 use Rattle.records.specs.declared.Found.the-variants.{Operation}
 use Rattle.codes.specs.Code.{sameCode}
@@ -68,13 +68,13 @@ sought-invoked own peer (PeerOne i) h = invoked-behind (codeFound (lookup (i .0)
 sought-invoked own peer NoOne h = absurd (true≢false (sym h))
 
 -- its operation stands where the walk says
-pub sought-stands : (T : List ℕ) (s : State) (q : Sought) (f : Found) → f ≡ soughtIn (ownRecords s) (peerRecords s) q → (c : Code) → c ≡ codeFound f → (n : ℕ) → (invoked c (live s) ≡ true → PlaceOf T Operations c (At n)) → StandsAt T f n
+pub sought-stands : (T : List ℕ) (s : Held) (q : Sought) (f : Found) → f ≡ soughtIn (ownRecords s) (peerRecords s) q → (c : Code) → c ≡ codeFound f → (n : ℕ) → (invoked c (live s) ≡ true → PlaceOf T Operations c (At n)) → StandsAt T f n
 sought-stands T s q f e c g n w h =
     let i : invoked (codeFound f) (live s) ≡ true = subst (λ (x : Found). invoked (codeFound x) (live s) ≡ true) (sym e) (sought-invoked (ownRecords s) (peerRecords s) q (ap isFound (sym e) ∙ h)) in
     subst (λ (d : Code). PlaceOf T Operations d (At n)) g (w (subst (λ (d : Code). invoked d (live s) ≡ true) (sym g) i))
 
 -- the record that was sought, said otherwise
-pub opens-as : (T : List ℕ) (s : State) (k j : ℕ) (f g : Found) (o : Opening) → k ≡ j → f ≡ g → Opens T s k f o → Opens T s j g o
+pub opens-as : (T : List ℕ) (s : Held) (k j : ℕ) (f g : Found) (o : Opening) → k ≡ j → f ≡ g → Opens T s k f o → Opens T s j g o
 opens-as T s k j f g o e h w = subst (λ (n : ℕ). Opens T s n g o) e (subst (λ (x : Found). Opens T s k x o) h w)
 
 -- a record was found, and its operation stands at entry n of a valid table
@@ -92,7 +92,7 @@ settled T f n i l e h p =
 
 -- ---- a record more, unless the class makes none
 
-module _ (T : List ℕ) (c : Code) (class : ℕ) (e : class ≡ classOf (operationOf T c)) (s t : State) where
+module _ (T : List ℕ) (c : Code) (class : ℕ) (e : class ≡ classOf (operationOf T c)) (s t : Held) where
   silent-is : (b : Bool) → eqb class 5 ≡ b → isSilent T c ≡ b
   silent-is b q = ap (λ (n : ℕ). eqb n 5) (sym e) ∙ q
 

@@ -10,7 +10,7 @@ use lib.Dec.{eqb, leb}
 use types.Run.{OneOf}
 use borrow.Author.Tests.{leb-true, eqb-true, not-false}
 use Rattle.base.proofs.Tests.{and-left, and-right, or-cases}
-use Rattle.records.specs.declared.State.{State}
+use Rattle.records.specs.Held.{Held}
 use Rattle.optable.specs.Validity.{valid}
 use Rattle.protocol.specs.Call.{own, peer, Call, receive, invoke, result, error, reject, forget, Refusal, plain, rejecting, Answer, refused, namesPlace}
 use Rattle.protocol.specs.Check.{Check, answer, usable, shared}
@@ -65,21 +65,21 @@ unfolding readVerdict
 verdict-passes F v cs g e = sym g ∙ ap (readVerdict F) e
 
 -- where 1 passes the table is valid
-pub checks-valid : (T : List ℕ) (s : State) (c : Call) → Pass (checks T s c) → valid T ≡ true
+pub checks-valid : (T : List ℕ) (s : Held) (c : Call) → Pass (checks T s c) → valid T ≡ true
 unfolding usable
 checks-valid T s c p = and-left (valid T) _ (not-false _ (passed (checks T s c) p 1))
 
 -- where 19 and 1 pass, the table may be used
-pub opened-usable : (T : List ℕ) (s : State) (v : Verdict) → Opened T s v → v ≡ Passes → usable T s ≡ true
+pub opened-usable : (T : List ℕ) (s : Held) (v : Verdict) → Opened T s v → v ≡ Passes → usable T s ≡ true
 opened-usable T s v o e = not-false _ (passed (shared T s) (none-passes (shared T s) (verdict-passes plain v (shared T s) o e)) 1)
 
 -- a call whose checks pass has passed 19 and 1
-pub opened-passes : (T : List ℕ) (s : State) (c : Call) (v : Verdict) → Opened T s v → Pass (checks T s c) → v ≡ Passes
+pub opened-passes : (T : List ℕ) (s : Held) (c : Call) (v : Verdict) → Opened T s v → Pass (checks T s c) → v ≡ Passes
 unfolding readVerdict
 opened-passes T s c Passes o p = refl
 opened-passes T s c (Fails n) o p = some-none (o ∙ rw (passed (checks T s c) p 19, passed (checks T s c) p 1) refl)
 
-opened-valid : (T : List ℕ) (s : State) (v : Verdict) → Opened T s v → v ≡ Passes → valid T ≡ true
+opened-valid : (T : List ℕ) (s : Held) (v : Verdict) → Opened T s v → v ≡ Passes → valid T ≡ true
 unfolding usable
 opened-valid T s v o e = and-left (valid T) _ (opened-usable T s v o e)
 
@@ -129,7 +129,7 @@ unfolding readVerdict orElse
 all F cs r p l = l .says (λ _. p)
 
 -- a call's list behind 19 and 1; where these pass the table is valid, and Q holds
-pub judged : {Q : Type 0} (T : List ℕ) (s : State) (c : Call) (v r : Verdict) → Opened T s v → (v ≡ Passes → Q) → Rest ((valid T ≡ true) × Q) plain v (laterChecks T s c) r → Judged T s c r
+pub judged : {Q : Type 0} (T : List ℕ) (s : Held) (c : Call) (v r : Verdict) → Opened T s v → (v ≡ Passes → Q) → Rest ((valid T ≡ true) × Q) plain v (laterChecks T s c) r → Judged T s c r
 judged T s c v r o q l = l .says (λ e. (opened-valid T s v o e, q e)) ∙ ap (λ (f : Option Refusal). orElse f (first (laterChecks T s c))) o ∙ sym (first-append (shared T s) (laterChecks T s c))
 
 -- ---- what holds of each check's refusal
@@ -152,7 +152,7 @@ isPlain (plain n) = isNumber n
 isPlain (rejecting i kind p) = false
 
 -- all of a call's checks do
-pub checks-plain : (T : List ℕ) (s : State) (c : Call) → allOf isPlain (checks T s c) ≡ true
+pub checks-plain : (T : List ℕ) (s : Held) (c : Call) → allOf isPlain (checks T s c) ≡ true
 unfolding laterChecks
 checks-plain T s (receive x room) = refl
 checks-plain T s (invoke i c l v room) = refl
@@ -166,7 +166,7 @@ checks-plain T s (forget peer i) = refl
 abbrev pub unnamed : Refusal → Bool
 unnamed r = not (namesPlace r)
 
-pub receive-unnamed : (T : List ℕ) (s : State) (x : List ℕ) (room : ℕ) → allOf unnamed (checks T s (receive x room)) ≡ true
+pub receive-unnamed : (T : List ℕ) (s : Held) (x : List ℕ) (room : ℕ) → allOf unnamed (checks T s (receive x room)) ≡ true
 unfolding laterChecks
 receive-unnamed T s x room = refl
 

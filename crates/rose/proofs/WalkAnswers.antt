@@ -13,7 +13,7 @@ use Rattle.base.proofs.Tests.{and-left, and-right, or-cases}
 use Rattle.codes.specs.declared.Code.{Code}
 use Rattle.records.specs.declared.Record.{Record}
 use Rattle.records.specs.declared.Records.{Records}
-use Rattle.records.specs.declared.State.{State}
+use Rattle.records.specs.Held.{Held}
 use Rattle.codes.specs.Code.{sameCode}
 use Rattle.records.specs.Records.{codeOf, nameIn, view}
 use Rattle.codes.proofs.CodeLaws.{same-code-equal}
@@ -131,7 +131,7 @@ covered-append T [] l = refl
 covered-append T (r ∷ k) l = rw (covered-append T k l) (sym (and-assoc (listed (operationOf T (r .code))) (covered T k) (covered T l)))
 
 -- 1 asks for the records only where the table is valid
-pub usable-is : (T : List ℕ) (s : State) (b : Bool) → (valid T ≡ true → b ≡ covered T (live s)) → (valid T && b) ≡ usable T s
+pub usable-is : (T : List ℕ) (s : Held) (b : Bool) → (valid T ≡ true → b ≡ covered T (live s)) → (valid T && b) ≡ usable T s
 unfolding usable
 usable-is T s b p = go (valid T) p
   where
@@ -140,9 +140,9 @@ usable-is T s b p = go (valid T) p
     go false x = refl
 
 -- where 1 passes the table is valid and has every code
-pub usable-covers : (T : List ℕ) (s : State) (b : Bool) → (valid T ≡ true → b ≡ covered T (live s)) → usable T s ≡ true → (valid T ≡ true) × (b ≡ true)
+pub usable-covers : (T : List ℕ) (s : Held) (b : Bool) → (valid T ≡ true → b ≡ covered T (live s)) → usable T s ≡ true → (valid T ≡ true) × (b ≡ true)
 usable-covers T s b p u = let h = usable-is T s b p ∙ u in (and-left (valid T) b h, and-right (valid T) b h)
 
 -- the own records are the first of all
-pub own-busy : (T : List ℕ) (s : State) (k : ℕ) (b : Bool) → k ≡ length (ownRecords s) → b ≡ isBusy T (take k (live s)) → b ≡ isBusy T (ownRecords s)
+pub own-busy : (T : List ℕ) (s : Held) (k : ℕ) (b : Bool) → k ≡ length (ownRecords s) → b ≡ isBusy T (take k (live s)) → b ≡ isBusy T (ownRecords s)
 own-busy T s k b e h = h ∙ rw (e, take-append-seam (ownRecords s) (peerRecords s)) refl

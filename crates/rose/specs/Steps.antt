@@ -1,18 +1,19 @@
 -- What only serves the proof of a call's parts: the first check that fails, a linked id's parent, what becomes of a received APDU. The calls
 -- promise what crate protocol defines.
-use Prim.Native.Nat.{ℕ, _-_, _≤_}
+use Prim.Native.Nat.{ℕ, _-_, _*_, _≤_}
 use mathlib.Core.Path.{_≡_}
 use mathlib.Core.Bool.{Bool, true, false, cond, _&&_, _||_}
 use mathlib.Core.List.{List, [], _∷_, _++_}
 use mathlib.Core.Option.{Option, some, none}
 use Rattle.records.specs.declared.Records.{Records}
 use Rattle.records.specs.declared.Resting.{Resting}
+use Rattle.records.specs.declared.Kept.{Kept}
 use Rattle.records.specs.declared.State.{State}
 use Rattle.records.specs.declared.Found.{Found}
 use Rattle.records.specs.declared.Found.the-variants.{Operation, Nothing}
 use Rattle.codes.specs.declared.Code.{Code}
 use Rattle.records.specs.declared.Record.{Record}
-use Rattle.records.specs.Limits.{levels}
+use Rattle.records.specs.Limits.{levels, answerOctets}
 use Rattle.codes.specs.Code.{sameCode}
 use Rattle.records.specs.Records.{lookup}
 use Rattle.base.specs.Lists.{nonEmpty}
@@ -20,26 +21,29 @@ use Rattle.ber.specs.Element.{place}
 use Rattle.optable.specs.declared.Part.the-variants.{Operations}
 use Rattle.codes.specs.declared.Place.the-variants.{At}
 use Rattle.optable.specs.Validity.{valid}
+use Rattle.optable.specs.Service.{probeCode}
 use Rattle.optable.specs.Lookup.{PlaceOf}
 use Rattle.apdu.specs.declared.Number.{Number}
 use Rattle.apdu.specs.declared.Number.the-variants.{Of, Absent}
 use Rattle.apdu.specs.declared.CodeField.{CodeField}
 use Rattle.apdu.specs.declared.CodeField.the-variants.{Is, Other}
 use Rattle.apdu.specs.Parse.{Apdu, badlyStructured, unrecognized, mistyped, invoke, result, error, reject}
-use lib.ListN.{length, take, drop}
+use lib.ListN.{length, take, drop, getD}
 use lib.Dec.{eqb, leb}
-use Rattle.records.specs.State.{addPeer, retireOwn, retirePeer, forgetOwn}
+use Rattle.records.specs.State.{addPeer, putOwn, putPeer, putKept, retireOwn, retirePeer, forgetOwn}
+use Rattle.records.specs.Held.{Held, inState, dropAnswer}
 use Rattle.protocol.specs.declared.Invocation.{Invocation}
 use Rattle.protocol.specs.declared.Invocation.the-variants.{Own, Peer}
 use Rattle.protocol.specs.declared.Reception.{Reception}
-use Rattle.protocol.specs.declared.Reception.the-variants.{Indicated, Refused as Refusing}
+use Rattle.protocol.specs.declared.Reception.the-variants.{Indicated, Answered, Refused as Refusing}
 use Rattle.protocol.specs.declared.Outcome.the-variants.{Accepted}
 use Rattle.protocol.specs.declared.Requested.{Requested}
 use Rattle.protocol.specs.declared.Received.{Received}
-use Rattle.protocol.specs.Call.{Call, Answer, Refusal, plain, refused, rejectWritten, namesPlace, stateAfter}
+use Rattle.protocol.specs.Call.{Call, Answer, Refusal, plain, refused, rejectWritten, endToEnd, namesPlace, heldAfter}
 use Rattle.protocol.specs.Check.{Check, codeFound, ownRecords, peerRecords, covered, isBusy, shared, valueFinding, valueWell}
 use Rattle.protocol.specs.Perform.{checks}
 use Rattle.protocol.specs.Receive.{receiveApdu}
+use Rattle.protocol.specs.Service.{reply}
 use Rattle.protocol.specs.Reading.{readRefusal, readReception, readOutcome}
 use Rattle.rose.specs.declared.verdict.Verdict.{Verdict}
 use Rattle.rose.specs.declared.verdict.Verdict.the-variants.{Passes, Fails}
@@ -47,10 +51,12 @@ use Rattle.rose.specs.declared.walking.Walk.{Walk}
 use Rattle.rose.specs.declared.usable.Opening.{Opening}
 use Rattle.rose.specs.declared.usable.Sought.{Sought}
 use Rattle.rose.specs.declared.usable.Sought.the-variants.{Own as OwnOne, Peer as PeerOne, Nothing as NoOne}
-use Rattle.rose.specs.declared.arrival.Arrival.{Arrival}
+use Rattle.rose.specs.declared.outcome.Arrival.{Arrival}
 use Rattle.rose.specs.declared.request.ValueCheck.{ValueCheck}
 use Rattle.rose.specs.declared.change.Change.{Change}
-use Rattle.rose.specs.declared.change.Change.the-variants.{Unchanged, Adds, Retires}
+use Rattle.rose.specs.declared.change.Change.the-variants.{Unchanged, Adds, Drops, Retires}
+use Rattle.rose.specs.declared.reply.Reply.{Reply}
+use Rattle.rose.specs.declared.reply.Reply.the-variants.{Nothing as NoReply, Result as Replies, Fetched}
 
 -- the refusal of the first check that fails
 abbrev pub first : List Check → Option Refusal
@@ -68,30 +74,51 @@ oneMore Passes fails n = cond fails (Fails n) Passes
 oneMore (Fails m) fails n = Fails m
 
 -- a verdict on 19 and 1
-abbrev pub Opened : List ℕ → State → Verdict → Type 0
+abbrev pub Opened : List ℕ → Held → Verdict → Type 0
 Opened T s v = readVerdict plain v ≡ first (shared T s)
 
 -- a verdict on all checks of a call
-abbrev pub Judged : List ℕ → State → Call → Verdict → Type 0
+abbrev pub Judged : List ℕ → Held → Call → Verdict → Type 0
 Judged T s c v = readVerdict plain v ≡ first (checks T s c)
 
--- the state of these parts
-abbrev pub stateOf : Records → Records → Resting → State
-stateOf own peer rest = record { own = own; peer = peer; resting = rest }
+-- a state and its store, of these parts
+abbrev pub heldOf : Records → Records → Resting → Kept → List ℕ → Held
+heldOf own peer rest kept store = record { state = record { own = own; peer = peer; resting = rest; kept = kept }; store = store }
 
--- the state as a received APDU changes it
-abbrev pub after : State → Change → State
+-- another own or peer side, and other kept ids and lengths
+abbrev pub withOwnSide : Held → Records → Held
+withOwnSide s d = inState s (putOwn (s .state) d)
+
+abbrev pub withPeerSide : Held → Records → Held
+withPeerSide s d = inState s (putPeer (s .state) d)
+
+abbrev pub withKept : Held → Kept → Held
+withKept s k = inState s (putKept (s .state) k)
+
+-- what the end holds as a received APDU changes it: a peer record comes, or none, and the kept answer of an id goes; or an own record goes
+abbrev pub after : Held → Change → Held
 after s Unchanged = s
-after s (Adds i c) = addPeer s i c
-after s (Retires i) = retireOwn s i
+after s (Adds i c) = dropAnswer (inState s (addPeer (s .state) i c)) i
+after s (Drops i) = dropAnswer s i
+after s (Retires i) = inState s (retireOwn (s .state) i)
 
--- what becomes of a received APDU in the octets x is this answer: its indication or refusal, and the state then
-pub record Answers (x : List ℕ) (s : State) (a : Answer) (r : Arrival) : Type 0 where
-  pub answers : readReception x (r .reception) (after s (r .change)) [] ≡ a
-  pub state : after s (r .change) ≡ stateAfter s a
+-- the octets that are kept in a place
+abbrev pub keptAt : Held → ℕ → List ℕ
+keptAt s p = take (getD (s .state .kept .lengths) p 0) (drop (answerOctets * p) (s .store))
+
+-- the APDUs that receive writes itself
+abbrev pub replied : Held → Reply → List (List ℕ)
+replied s NoReply = []
+replied s (Replies i c n) = reply (i .0) c n ∷ []
+replied s (Fetched i p) = reply (i .0) probeCode 1 ∷ keptAt s p ∷ []
+
+-- what becomes of a received APDU in the octets x is this answer: its indication, its own answer or its refusal, and what the end holds then
+pub record Answers (x : List ℕ) (s : Held) (a : Answer) (r : Arrival) : Type 0 where
+  pub answers : readReception x (r .reception) (after s (r .change)) (replied s (r .reply)) ≡ a
+  pub holds : after s (r .change) ≡ heldAfter s a
 
 -- what becomes of the received APDU p is as defined
-abbrev pub Arrives : List ℕ → State → List ℕ → Apdu → Arrival → Type 0
+abbrev pub Arrives : List ℕ → Held → List ℕ → Apdu → Arrival → Type 0
 Arrives T s x p r = Answers x s (receiveApdu T s x p) r
 
 -- ---- records that were found, and the operations of records
@@ -101,7 +128,7 @@ isFound (Operation c) = true
 isFound Nothing = false
 
 -- the live records of both sides, own before peer
-abbrev pub live : State → List Record
+abbrev pub live : Held → List Record
 live s = ownRecords s ++ peerRecords s
 
 -- some record is of an operation with the code
@@ -126,14 +153,14 @@ abbrev pub StandsAt : List ℕ → Found → ℕ → Type 0
 StandsAt T f n = isFound f ≡ true → PlaceOf T Operations (codeFound f) (At n)
 
 -- the verdict on 19 and 1, the record f that was sought, and what the walk told where they pass
-pub record Opens (T : List ℕ) (s : State) (asked : ℕ) (f : Found) (o : Opening) : Type 0 where
+pub record Opens (T : List ℕ) (s : Held) (asked : ℕ) (f : Found) (o : Opening) : Type 0 where
   pub verdict : Opened T s (o .verdict)
   pub found : o .found ≡ f
   pub busy : o .verdict ≡ Passes → o .busy ≡ isBusy T (take asked (live s))
   pub stands : o .verdict ≡ Passes → StandsAt T (o .found) (o .entry)
 
 -- the same, the record being the one that is sought
-abbrev pub OpensFor : List ℕ → State → ℕ → Sought → Opening → Type 0
+abbrev pub OpensFor : List ℕ → Held → ℕ → Sought → Opening → Type 0
 OpensFor T s asked q o = Opens T s asked (soughtIn (ownRecords s) (peerRecords s) q) o
 
 abbrev pub isLocal : CodeField → Bool
@@ -166,7 +193,7 @@ faultIn (error i c v) = 0
 faultIn (reject i kind p) = 0
 
 -- the record of an invocation
-abbrev pub invocationIn : State → Invocation → Found
+abbrev pub invocationIn : Held → Invocation → Found
 invocationIn s (Own i) = lookup (i .0) (ownRecords s)
 invocationIn s (Peer i) = lookup (i .0) (peerRecords s)
 
@@ -186,13 +213,13 @@ isNumber n = (leb 1 n && leb n 16) || (eqb n 19 || (eqb n 21 || eqb n 22))
 
 -- the value being at fault at p, if it is
 pub record RefusedRequest (s : State) (n p : ℕ) (r : Requested) : Type 0 where
-  pub outcome : isNumber n ≡ true → (t : State) (w : List ℕ) → readOutcome (r .outcome) t w ≡ refused (plain n)
+  pub outcome : isNumber n ≡ true → (t : Held) (w : List (List ℕ)) → readOutcome (r .outcome) t w ≡ refused (plain n)
   pub state : r .state ≡ s
   pub written : r .written ≡ 0
   pub place : r .place ≡ cond (namesPlace (plain n)) p 0
 
 pub record RefusedReceive (s : State) (n : ℕ) (r : Received) : Type 0 where
-  pub reception : isNumber n ≡ true → (x : List ℕ) (t : State) (w : List ℕ) → readReception x (r .reception) t w ≡ refused (plain n)
+  pub reception : isNumber n ≡ true → (x : List ℕ) (t : Held) (w : List (List ℕ)) → readReception x (r .reception) t w ≡ refused (plain n)
   pub state : r .state ≡ s
   pub written : r .written ≡ 0
   pub place : r .place ≡ 0
@@ -204,12 +231,13 @@ abbrev pub withoutInvocation : State → Invocation → State
 withoutInvocation s (Own i) = forgetOwn s i
 withoutInvocation s (Peer i) = retirePeer s i
 
--- the octets that a reception writes: the Reject of an 18
-abbrev pub receptionWrites : Reception → List ℕ
-receptionWrites (Indicated i) = []
-receptionWrites (Refusing why) = rejectWritten (readRefusal why)
+-- the APDUs that a reception writes: what receive answers itself, or the Reject of an 18
+abbrev pub receptionWrites : Held → Reception → Reply → List (List ℕ)
+receptionWrites s (Indicated i) q = replied s q
+receptionWrites s Answered q = replied s q
+receptionWrites s (Refusing why) q = rejectWritten (readRefusal why)
 
--- they stand at the front of the output, if they fit
-pub record RefusalWritten (reception : Reception) (before after : List ℕ) (count : ℕ) : Type 0 where
-  pub octets : length (receptionWrites reception) ≤ length before → after ≡ receptionWrites reception ++ drop (length (receptionWrites reception)) before
-  pub counted : length (receptionWrites reception) ≤ length before → count ≡ length (receptionWrites reception)
+-- these APDUs stand at the front of the output, end to end, if they fit
+pub record AllWritten (l : List (List ℕ)) (before after : List ℕ) (count : ℕ) : Type 0 where
+  pub octets : length (endToEnd l) ≤ length before → after ≡ endToEnd l ++ drop (length (endToEnd l)) before
+  pub counted : length (endToEnd l) ≤ length before → count ≡ length (endToEnd l)

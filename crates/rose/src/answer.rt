@@ -1,4 +1,6 @@
-// What a call answers, and the Reject that a refused APDU is answered with.
+// What a call answers, and what a received APDU is answered with.
+use crate::reply::Reply;
+use crate::reply::write_reply;
 use crate::verdict::names_place;
 use crate::verdict::refusal;
 use apdu::encode::write_reject;
@@ -10,8 +12,12 @@ use protocol::Requested;
 use records::State;
 ghost use mathlib.Core.Path.{_≡_};
 ghost use mathlib.Core.Bool.{cond};
+ghost use lib.ListN.{length};
+ghost use Rattle.records.specs.Limits.{answers};
+ghost use Rattle.records.specs.State.{putKept};
+ghost use Rattle.records.specs.Held.{Held};
 ghost use Rattle.protocol.specs.Call.{plain, namesPlace};
-ghost use Rattle.rose.specs.Steps.{RefusedRequest, RefusedReceive, acceptedRequest, RefusalWritten};
+ghost use Rattle.rose.specs.Steps.{RefusedRequest, RefusedReceive, acceptedRequest, receptionWrites, AllWritten};
 
 // The place, if a refusal of this number names one.
 fn named(why: u8, place: usize) -> usize
@@ -57,12 +63,20 @@ pub(crate) fn unheard(state: State, why: u8) -> Received
     }
 }
 
-// Writes the Reject of an 18, and nothing of another answer.
-pub(crate) fn write_answer(out: &mut [u8], reception: Reception) -> usize
-    ensures { λ r. ⌜ RefusalWritten reception (now (out .entry)) (now (out .exit)) r ⌝ }
+// Writes what receive answers itself, if it does, or the Reject of an 18.
+pub(crate) fn write_answer<'a>(
+    out: &mut [u8],
+    lengths: &'a [u32],
+    store: &'a [u8],
+    reception: Reception,
+    reply: Reply,
+) -> usize
+    requires { ⌜ length (now lengths) ≡ answers ⌝ }
+    ensures { λ r. ⌜ ((s : Held) → AllWritten (receptionWrites (record { state = putKept (s .state) (record { count = s .state .kept .count; ids = s .state .kept .ids; lengths = now (lengths .entry) }); store = now (store .entry) }) reception reply) (now (out .entry)) (now (out .exit)) r) ⌝ }
 {
     match reception {
-        Reception::Indicated(_) => 0,
+        Reception::Indicated(_) => write_reply(out, lengths, store, reply),
+        Reception::Answered => write_reply(out, lengths, store, reply),
         Reception::Refused(why) => {
             let Refusal::Rejected { id, kind, problem } = why else {
                 return 0;

@@ -1,6 +1,11 @@
 // A received APDU: 3 and 2, then the problem that it is refused with, or what it is indicated as.
 use crate::change::Change;
-use crate::change::added;
+use crate::outcome::Arrival;
+use crate::outcome::accept_invoke;
+use crate::outcome::indicated;
+use crate::outcome::refused;
+use crate::outcome::rejected;
+use crate::outcome::told;
 use crate::problem::check_error;
 use crate::problem::check_invoke;
 use crate::problem::check_result;
@@ -16,8 +21,8 @@ use apdu::Parsed;
 use apdu::Value;
 use optable::places::operation_in;
 use optable::places::operation_place;
+use optable::room_needed;
 use protocol::Indication;
-use protocol::Reception;
 use protocol::Refusal;
 use records::OwnId;
 use records::PeerId;
@@ -29,66 +34,23 @@ ghost use Prim.Native.Nat.{ℕ};
 ghost use lib.ListN.{length, getD};
 ghost use lib.Dec.{eqb};
 ghost use Rattle.records.specs.Records.{lent, lookup};
-ghost use Rattle.records.specs.State.{putPeer};
+ghost use Rattle.records.specs.Held.{Held};
 ghost use Rattle.optable.specs.Validity.{valid};
-ghost use Rattle.apdu.specs.declared.Number.the-variants.{Of};
 ghost use Rattle.apdu.specs.Parse.{invoke, result, error, parse};
 ghost use Rattle.apdu.specs.Reading.{readOwnLink, readValue, readBody, readParsed};
-ghost use Rattle.protocol.specs.declared.Refusal.the-variants.{Rejected};
 ghost use Rattle.protocol.specs.Call.{receive, refused};
 ghost use Rattle.protocol.specs.Check.{ownRecords};
 ghost use Rattle.protocol.specs.Receive.{fault};
-ghost use Rattle.rose.specs.declared.change.Change.the-variants.{Unchanged};
-ghost use Rattle.rose.specs.Steps.{foundBy, leadsTo, StandsAt, Opened, Judged, Answers, Arrives};
+ghost use Rattle.rose.specs.Steps.{foundBy, leadsTo, StandsAt, Opened, Judged, withPeerSide, withKept, Answers, Arrives};
 
 // The checks of receive behind 19 and 1.
-pub(crate) fn check_receive(opened: Opening, octets: usize, room: usize) -> Verdict
-    ensures { λ r. ⌜ ((T : List ℕ) (s : State) (x : List ℕ) → Opened T s (opened .verdict) → octets ≡ length x → Judged T s (receive x room) r) ⌝ }
+pub(crate) fn check_receive(opened: Opening, table: &[u8], octets: usize, room: usize) -> Verdict
+    ensures { λ r. ⌜ ((s : Held) (x : List ℕ) → Opened (now (table .entry)) s (opened .verdict) → octets ≡ length x → Judged (now (table .entry)) s (receive x room) r) ⌝ }
 {
     let verdict = opened.verdict;
-    verdict.then(octets > State::OCTETS, 3).then(room < 11, 2)
-}
-
-// What becomes of a received APDU.
-pub(crate) struct Arrival {
-    pub reception: Reception,
-    pub change: Change,
-}
-
-fn refused(why: Refusal) -> Arrival
-    ensures { λ r. ⌜ r ≡ record { reception = Reception.Refused why; change = Unchanged } ⌝ }
-{
-    Arrival {
-        reception: Reception::Refused(why),
-        change: Change::Unchanged,
-    }
-}
-
-// Refused with a problem of the received id.
-fn rejected(id: u32, kind: u8, number: u8) -> Arrival
-    ensures { λ r. ⌜ r ≡ record { reception = Reception.Refused (Rejected (Of id) kind number); change = Unchanged } ⌝ }
-{
-    refused(Refusal::Rejected {
-        id: Number::Of(id),
-        kind,
-        problem: number,
-    })
-}
-
-fn indicated(indication: Indication, change: Change) -> Arrival
-    ensures { λ r. ⌜ r ≡ record { reception = Reception.Indicated indication; change = change } ⌝ }
-{
-    Arrival {
-        reception: Reception::Indicated(indication),
-        change,
-    }
-}
-
-// Indicated, and no record is touched.
-fn told(indication: Indication) -> Arrival
-    ensures { λ r. ⌜ r ≡ record { reception = Reception.Indicated indication; change = Unchanged } ⌝ }
-{
-    indicated(indication, Change::Unchanged)
+    verdict
+        .then(octets > State::OCTETS, 3)
+        .then(room < room_needed(table), 2)
 }
 
 fn starts_reject(x: &[u8]) -> bool
@@ -102,7 +64,7 @@ fn starts_reject(x: &[u8]) -> bool
 
 // Steps 1 and 2: a general problem, or 17 if the first octet is A4.
 fn arrive_wrong(x: &[u8], number: u8, id: Number) -> Arrival
-    ensures { λ r. ⌜ ((s : State) → Answers (now (x .entry)) s (refused (fault (now (x .entry)) number id)) r) ⌝ }
+    ensures { λ r. ⌜ ((s : Held) → Answers (now (x .entry)) s (refused (fault (now (x .entry)) number id)) r) ⌝ }
 {
     if starts_reject(x) {
         return refused(Refusal::UnacceptableReject);
@@ -114,10 +76,12 @@ fn arrive_wrong(x: &[u8], number: u8, id: Number) -> Arrival
     })
 }
 
-fn arrive_invoke(
+fn arrive_invoke<'a>(
     opened: Opening,
     count: usize,
-    ids: &[u32; State::RECORDS],
+    ids: &'a [u32; State::RECORDS],
+    kept_count: usize,
+    kept_ids: &'a [u32; State::ANSWERS],
     table: &[u8],
     x: &[u8],
     id: PeerId,
@@ -126,7 +90,7 @@ fn arrive_invoke(
     value: Value,
 ) -> Arrival
     requires { ⌜ (valid (now table) ≡ true) × StandsAt (now table) (opened .found) (opened .entry) ⌝ }
-    ensures { λ r. ⌜ ((s : State) (lengths highs lows : List ℕ) → opened .found ≡ foundBy (readOwnLink linked) (ownRecords s) → Arrives (now (table .entry)) (putPeer s (lent count (now (ids .entry)) lengths highs lows)) (now (x .entry)) (invoke (id .0) (readOwnLink linked) field (readValue (now (x .entry)) value)) r) ⌝ }
+    ensures { λ r. ⌜ ((s : Held) (lengths highs lows sizes : List ℕ) → opened .found ≡ foundBy (readOwnLink linked) (ownRecords s) → Arrives (now (table .entry)) (withKept (withPeerSide s (lent count (now (ids .entry)) lengths highs lows)) (record { count = «kept_count»; ids = now («kept_ids» .entry); lengths = sizes })) (now (x .entry)) (invoke (id .0) (readOwnLink linked) field (readValue (now (x .entry)) value)) r) ⌝ }
 {
     let code = field_code(field);
     let place = operation_place(table, code);
@@ -143,21 +107,24 @@ fn arrive_invoke(
         value,
     ) {
         Verdict::Fails(number) => rejected(id.0, 0x81, number),
-        Verdict::Passes => indicated(
-            Indication::Invoke {
-                id,
-                linked,
-                code,
-                argument: value,
-            },
-            added(operation_in(table, place).class(), id, code),
+        Verdict::Passes => accept_invoke(
+            count,
+            ids,
+            kept_count,
+            kept_ids,
+            x,
+            operation_in(table, place).class(),
+            id,
+            linked,
+            code,
+            value,
         ),
     }
 }
 
 fn arrive_result(opened: Opening, table: &[u8], x: &[u8], id: OwnId, body: Body) -> Arrival
     requires { ⌜ (valid (now table) ≡ true) × StandsAt (now table) (opened .found) (opened .entry) ⌝ }
-    ensures { λ r. ⌜ ((s : State) → opened .found ≡ lookup (id .0) (ownRecords s) → Arrives (now (table .entry)) s (now (x .entry)) (result (id .0) (readBody (now (x .entry)) body)) r) ⌝ }
+    ensures { λ r. ⌜ ((s : Held) → opened .found ≡ lookup (id .0) (ownRecords s) → Arrives (now (table .entry)) s (now (x .entry)) (result (id .0) (readBody (now (x .entry)) body)) r) ⌝ }
 {
     let found = opened.found;
     match check_result(opened, table, x, id, body) {
@@ -182,7 +149,7 @@ fn arrive_error(
     value: Value,
 ) -> Arrival
     requires { ⌜ (valid (now table) ≡ true) × StandsAt (now table) (opened .found) (opened .entry) ⌝ }
-    ensures { λ r. ⌜ ((s : State) → opened .found ≡ lookup (id .0) (ownRecords s) → Arrives (now (table .entry)) s (now (x .entry)) (error (id .0) field (readValue (now (x .entry)) value)) r) ⌝ }
+    ensures { λ r. ⌜ ((s : Held) → opened .found ≡ lookup (id .0) (ownRecords s) → Arrives (now (table .entry)) s (now (x .entry)) (error (id .0) field (readValue (now (x .entry)) value)) r) ⌝ }
 {
     let found = opened.found;
     match check_error(opened, table, x, id, field, value) {
@@ -201,16 +168,18 @@ fn arrive_error(
 
 // A received APDU that was parsed, behind 19, 1, 3 and 2, with the own record that it leads to and where its operation stands. Of the Rejects only
 // one of an Invoke retires a record.
-pub(crate) fn arrive(
+pub(crate) fn arrive<'a>(
     opened: Opening,
     count: usize,
-    ids: &[u32; State::RECORDS],
+    ids: &'a [u32; State::RECORDS],
+    kept_count: usize,
+    kept_ids: &'a [u32; State::ANSWERS],
     table: &[u8],
     x: &[u8],
     parsed: Parsed,
 ) -> Arrival
     requires { ⌜ (valid (now table) ≡ true) × (StandsAt (now table) (opened .found) (opened .entry) × (readParsed (now x) parsed ≡ parse (now x))) ⌝ }
-    ensures { λ r. ⌜ ((s : State) (lengths highs lows : List ℕ) → opened .found ≡ leadsTo (parse (now (x .entry))) (ownRecords s) → Arrives (now (table .entry)) (putPeer s (lent count (now (ids .entry)) lengths highs lows)) (now (x .entry)) (parse (now (x .entry))) r) ⌝ }
+    ensures { λ r. ⌜ ((s : Held) (lengths highs lows sizes : List ℕ) → opened .found ≡ leadsTo (parse (now (x .entry))) (ownRecords s) → Arrives (now (table .entry)) (withKept (withPeerSide s (lent count (now (ids .entry)) lengths highs lows)) (record { count = «kept_count»; ids = now («kept_ids» .entry); lengths = sizes })) (now (x .entry)) (parse (now (x .entry))) r) ⌝ }
 {
     match parsed {
         Parsed::BadlyStructured { at: _ } => arrive_wrong(x, 2, Number::Absent),
@@ -221,7 +190,19 @@ pub(crate) fn arrive(
             linked,
             code,
             value,
-        } => arrive_invoke(opened, count, ids, table, x, id, linked, code, value),
+        } => arrive_invoke(
+            opened,
+            count,
+            ids,
+            kept_count,
+            kept_ids,
+            table,
+            x,
+            id,
+            linked,
+            code,
+            value,
+        ),
         Parsed::Result { id, body } => arrive_result(opened, table, x, id, body),
         Parsed::Error { id, code, value } => arrive_error(opened, table, x, id, code, value),
         Parsed::InvokeReject { id, problem } => indicated(

@@ -1,4 +1,5 @@
 // The problems of a received Invoke, Result and Error, in document 01's order of check.
+use crate::reply::is_inside_right;
 use crate::usable::Opening;
 use crate::usable::code_found;
 use crate::usable::is_childless;
@@ -23,6 +24,7 @@ use optable::places::error_place;
 use optable::places::is_paired_at;
 use optable::places::operation_in;
 use optable::read::operation_at;
+use optable::service_of;
 use optable::value_right;
 use records::OwnId;
 use records::PeerId;
@@ -33,7 +35,7 @@ ghost use mathlib.Core.Bool.{true};
 ghost use mathlib.Core.List.{List};
 ghost use Prim.Native.Nat.{ℕ};
 ghost use Rattle.records.specs.Records.{lent, lookup};
-ghost use Rattle.records.specs.State.{putPeer};
+ghost use Rattle.records.specs.Held.{Held};
 ghost use Rattle.optable.specs.declared.Part.the-variants.{Operations};
 ghost use Rattle.optable.specs.Validity.{valid};
 ghost use Rattle.optable.specs.Lookup.{PlaceOf};
@@ -44,7 +46,7 @@ ghost use Rattle.apdu.specs.Reading.{readOwnLink, readValue, readBody};
 ghost use Rattle.protocol.specs.Call.{rejecting};
 ghost use Rattle.protocol.specs.Check.{ownRecords};
 ghost use Rattle.protocol.specs.Receive.{fieldCode, otherCode, invokeChecks, resultChecks, errorChecks};
-ghost use Rattle.rose.specs.Steps.{first, readVerdict, foundBy, isLocal, StandsAt};
+ghost use Rattle.rose.specs.Steps.{first, readVerdict, withPeerSide, foundBy, isLocal, StandsAt};
 
 pub(crate) fn field_code(field: CodeField) -> Code
     ensures { λ r. ⌜ r ≡ fieldCode field ⌝ }
@@ -93,19 +95,26 @@ pub(crate) fn check_invoke(
     value: Value,
 ) -> Verdict
     requires { ⌜ (valid (now table) ≡ true) × (StandsAt (now table) (opened .found) (opened .entry) × PlaceOf (now table) Operations (fieldCode field) place) ⌝ }
-    ensures { λ r. ⌜ ((s : State) (lengths highs lows : List ℕ) → opened .found ≡ foundBy (readOwnLink linked) (ownRecords s) → readVerdict (rejecting (Of (id .0)) 0x81) r ≡ first (invokeChecks (now (table .entry)) (putPeer s (lent count (now (ids .entry)) lengths highs lows)) (id .0) (readOwnLink linked) field (readValue (now (x .entry)) value))) ⌝ }
+    ensures { λ r. ⌜ ((s : Held) (lengths highs lows : List ℕ) → opened .found ≡ foundBy (readOwnLink linked) (ownRecords s) → readVerdict (rejecting (Of (id .0)) 0x81) r ≡ first (invokeChecks (now (table .entry)) (withPeerSide s (lent count (now (ids .entry)) lengths highs lows)) (id .0) (readOwnLink linked) field (readValue (now (x .entry)) value))) ⌝ }
 {
     let named = operation_in(table, place);
     let is_linked = is_own_linked(linked);
     let found = opened.found;
+    let service = service_of(field_code(field));
     Verdict::Passes
         .then(has_peer(count, ids, id), 0)
         .then(is_missing(is_linked, found), 5)
         .then(is_childless(table, is_linked, opened.entry), 6)
         .then(!(is_local(field) & named.is_listed()), 1)
-        .then(!is_right(named.argument(), x, value), 2)
+        .then(
+            !(is_right(named.argument(), x, value) & is_inside_right(service, x, value)),
+            2,
+        )
         .then(is_no_child(table, is_linked, opened.entry, place), 7)
-        .then(lacks_room(named.class(), count, ids), 3)
+        .then(
+            !service.answers_itself() & lacks_room(named.class(), count, ids),
+            3,
+        )
 }
 
 // Whether a code is present and is not the record's.
@@ -135,7 +144,7 @@ pub(crate) fn check_result(
     body: Body,
 ) -> Verdict
     requires { ⌜ (valid (now table) ≡ true) × StandsAt (now table) (opened .found) (opened .entry) ⌝ }
-    ensures { λ r. ⌜ ((s : State) → opened .found ≡ lookup (id .0) (ownRecords s) → readVerdict (rejecting (Of (id .0)) 0x82) r ≡ first (resultChecks (now (table .entry)) s (id .0) (readBody (now (x .entry)) body))) ⌝ }
+    ensures { λ r. ⌜ ((s : Held) → opened .found ≡ lookup (id .0) (ownRecords s) → readVerdict (rejecting (Of (id .0)) 0x82) r ≡ first (resultChecks (now (table .entry)) s (id .0) (readBody (now (x .entry)) body))) ⌝ }
 {
     let found = opened.found;
     let named = operation_at(table, opened.entry);
@@ -156,7 +165,7 @@ pub(crate) fn check_error(
     value: Value,
 ) -> Verdict
     requires { ⌜ (valid (now table) ≡ true) × StandsAt (now table) (opened .found) (opened .entry) ⌝ }
-    ensures { λ r. ⌜ ((s : State) → opened .found ≡ lookup (id .0) (ownRecords s) → readVerdict (rejecting (Of (id .0)) 0x83) r ≡ first (errorChecks (now (table .entry)) s (id .0) field (readValue (now (x .entry)) value))) ⌝ }
+    ensures { λ r. ⌜ ((s : Held) → opened .found ≡ lookup (id .0) (ownRecords s) → readVerdict (rejecting (Of (id .0)) 0x83) r ≡ first (errorChecks (now (table .entry)) s (id .0) field (readValue (now (x .entry)) value))) ⌝ }
 {
     let found = opened.found;
     let used = operation_at(table, opened.entry);

@@ -16,9 +16,15 @@ ghost use Rattle.protocol.specs.Call.{receive};
 ghost use Rattle.protocol.specs.Perform.{perform};
 ghost use Rattle.protocol.specs.Reading.{ReceivePromise};
 
-// Takes a received APDU: it is indicated, or refused; an 18 writes its Reject at the front of the output.
-pub fn receive(state: State, table: &[u8], apdu: &[u8], out: &mut [u8]) -> Received
-    ensures { λ r. ⌜ ReceivePromise (perform (now (table .entry)) state (receive (now (apdu .entry)) (length (now (out .entry))))) state (now (apdu .entry)) (now (out .entry)) (now (out .exit)) r ⌝ }
+// Takes a received APDU: it is indicated, or answered, or refused; an answer, or the Reject of an 18, stands at the front of the output.
+pub fn receive(
+    state: State,
+    store: &mut [u8],
+    table: &[u8],
+    apdu: &[u8],
+    out: &mut [u8],
+) -> Received
+    ensures { λ r. ⌜ ReceivePromise (perform (now (table .entry)) (record { state = state; store = now (store .entry) }) (receive (now (apdu .entry)) (length (now (out .entry))))) (record { state = state; store = now (store .entry) }) (now (store .exit)) (now (apdu .entry)) (now (out .entry)) (now (out .exit)) r ⌝ }
 {
     let parsed = read(apdu);
     let opened = opening_of(
@@ -34,26 +40,33 @@ pub fn receive(state: State, table: &[u8], apdu: &[u8], out: &mut [u8]) -> Recei
         &state.peer.lows,
         state.resting.count,
         &state.resting.ids,
+        state.kept.count,
+        &state.kept.ids,
+        &state.kept.lengths,
+        store,
         table,
         0,
         leads_to(parsed),
     );
-    match check_receive(opened, apdu.len(), out.len()) {
+    match check_receive(opened, table, apdu.len(), out.len()) {
         Verdict::Fails(why) => unheard(state, why),
         Verdict::Passes => {
             let arrival = arrive(
                 opened,
                 state.peer.count,
                 &state.peer.ids,
+                state.kept.count,
+                &state.kept.ids,
                 table,
                 apdu,
                 parsed,
             );
             let reception = arrival.reception;
             let change = arrival.change;
-            let written = write_answer(out, reception);
+            let reply = arrival.reply;
+            let written = write_answer(out, &state.kept.lengths, store, reception, reply);
             Received {
-                state: changed(state, change),
+                state: changed(state, store, change),
                 place: fault_in(parsed),
                 reception,
                 written,

@@ -24,6 +24,7 @@ use optable::places::error_place;
 use optable::places::is_paired_at;
 use optable::places::operation_in;
 use optable::read::operation_at;
+use optable::service_of;
 use optable::value_right;
 use records::OwnId;
 use records::PeerId;
@@ -39,14 +40,14 @@ ghost use Rattle.base.specs.Lists.{nonEmpty};
 ghost use Rattle.records.specs.Limits.{octets, levels};
 ghost use Rattle.records.specs.Records.{lent, view, lookup};
 ghost use Rattle.records.specs.Numbers.{among};
-ghost use Rattle.records.specs.State.{putOwn};
+ghost use Rattle.records.specs.Held.{Held};
 ghost use Rattle.optable.specs.declared.Part.the-variants.{Operations};
 ghost use Rattle.optable.specs.Lookup.{PlaceOf};
 ghost use Rattle.apdu.specs.Reading.{readPeerLink};
 ghost use Rattle.protocol.specs.Call.{invoke, result, error, reject};
 ghost use Rattle.protocol.specs.Check.{valueWell, inApdu, inBody, peerRecords, restingIds};
 ghost use Rattle.protocol.specs.Perform.{isUserProblem};
-ghost use Rattle.rose.specs.Steps.{foundBy, Opens, Judged, ValueChecked};
+ghost use Rattle.rose.specs.Steps.{withOwnSide, foundBy, Opens, Judged, ValueChecked};
 
 // A value, empty for none, is one well-formed element of at most so many levels.
 fn is_well(value: &[u8], levels: usize) -> bool
@@ -106,7 +107,7 @@ pub(crate) fn check_invoke(
     rests: bool,
     room: usize,
 ) -> Verdict
-    ensures { λ r. ⌜ ((s : State) (lengths highs lows : List ℕ) → Opens (now (table .entry)) (putOwn s (lent count (now (ids .entry)) lengths highs lows)) (length (view (lent count (now (ids .entry)) lengths highs lows))) (foundBy (readPeerLink linked) (peerRecords s)) opened → PlaceOf (now (table .entry)) Operations code place → ValueChecked inApdu (now (value .entry)) checked → rests ≡ among (id .0) (restingIds s) → Judged (now (table .entry)) (putOwn s (lent count (now (ids .entry)) lengths highs lows)) (invoke (id .0) code (readPeerLink linked) (now (value .entry)) room) r) ⌝ }
+    ensures { λ r. ⌜ ((s : Held) (lengths highs lows : List ℕ) → Opens (now (table .entry)) (withOwnSide s (lent count (now (ids .entry)) lengths highs lows)) (length (view (lent count (now (ids .entry)) lengths highs lows))) (foundBy (readPeerLink linked) (peerRecords s)) opened → PlaceOf (now (table .entry)) Operations code place → ValueChecked inApdu (now (value .entry)) checked → rests ≡ among (id .0) (restingIds s) → Judged (now (table .entry)) (withOwnSide s (lent count (now (ids .entry)) lengths highs lows)) (invoke (id .0) code (readPeerLink linked) (now (value .entry)) room) r) ⌝ }
 {
     let named = operation_in(table, place);
     let fits = checked.fits;
@@ -119,7 +120,7 @@ pub(crate) fn check_invoke(
         .then(!named.is_listed(), 4)
         .then(has_own(count, ids, id), 5)
         .then(rests, 22)
-        .then(opened.busy, 6)
+        .then(!service_of(code).answers_itself() & opened.busy, 6)
         .then(is_missing(is_linked, found), 7)
         .then(is_no_child(table, is_linked, opened.entry, place), 8)
         .then(finding.is_fault(), 9)
@@ -139,7 +140,7 @@ pub(crate) fn check_result(
     checked: ValueCheck,
     room: usize,
 ) -> Verdict
-    ensures { λ r. ⌜ ((s : State) (asked : ℕ) → Opens (now (table .entry)) s asked (lookup (id .0) (peerRecords s)) opened → ValueChecked inBody (now (value .entry)) checked → Judged (now (table .entry)) s (result (id .0) (now (value .entry)) room) r) ⌝ }
+    ensures { λ r. ⌜ ((s : Held) (asked : ℕ) → Opens (now (table .entry)) s asked (lookup (id .0) (peerRecords s)) opened → ValueChecked inBody (now (value .entry)) checked → Judged (now (table .entry)) s (result (id .0) (now (value .entry)) room) r) ⌝ }
 {
     let found = opened.found;
     let named = operation_at(table, opened.entry);
@@ -167,7 +168,7 @@ pub(crate) fn check_error(
     checked: ValueCheck,
     room: usize,
 ) -> Verdict
-    ensures { λ r. ⌜ ((s : State) (asked : ℕ) → Opens (now (table .entry)) s asked (lookup (id .0) (peerRecords s)) opened → ValueChecked inApdu (now (value .entry)) checked → Judged (now (table .entry)) s (error (id .0) code (now (value .entry)) room) r) ⌝ }
+    ensures { λ r. ⌜ ((s : Held) (asked : ℕ) → Opens (now (table .entry)) s asked (lookup (id .0) (peerRecords s)) opened → ValueChecked inApdu (now (value .entry)) checked → Judged (now (table .entry)) s (error (id .0) code (now (value .entry)) room) r) ⌝ }
 {
     let found = opened.found;
     let used = operation_at(table, opened.entry);
@@ -198,7 +199,7 @@ fn is_user_problem(problem: u8) -> bool
 }
 
 pub(crate) fn check_reject(opened: Opening, id: PeerId, problem: u8, room: usize) -> Verdict
-    ensures { λ r. ⌜ ((T : List ℕ) (s : State) (asked : ℕ) → Opens T s asked (lookup (id .0) (peerRecords s)) opened → Judged T s (reject (id .0) problem room) r) ⌝ }
+    ensures { λ r. ⌜ ((T : List ℕ) (s : Held) (asked : ℕ) → Opens T s asked (lookup (id .0) (peerRecords s)) opened → Judged T s (reject (id .0) problem room) r) ⌝ }
 {
     let size = reject_size(Number::Of(id.0));
     let verdict = opened.verdict;

@@ -1,10 +1,8 @@
-// The four requests and forget: document 01, 'Requests, in order of check'.
+// The four requests: document 01, 'Requests, in order of check'.
 use crate::answer::accepted;
 use crate::answer::refused;
+use crate::change::answered;
 use crate::change::with_own;
-use crate::forgetting::check_forget;
-use crate::forgetting::forgotten;
-use crate::forgetting::record_sought;
 use crate::request::check_error;
 use crate::request::check_invoke;
 use crate::request::check_reject;
@@ -12,6 +10,7 @@ use crate::request::check_result;
 use crate::request::check_value;
 use crate::usable::Sought;
 use crate::usable::code_found;
+use crate::usable::keeps_answers;
 use crate::usable::opening_of;
 use crate::usable::peer_parent;
 use crate::verdict::Verdict;
@@ -21,10 +20,10 @@ use apdu::encode::write_error;
 use apdu::encode::write_invoke;
 use apdu::encode::write_reject;
 use apdu::encode::write_result;
+use base::octets::between;
 use codes::Code;
 use optable::places::operation_in;
 use optable::places::operation_place;
-use protocol::Invocation;
 use protocol::Requested;
 use records::OwnId;
 use records::PeerId;
@@ -36,11 +35,12 @@ ghost use lib.ListN.{length};
 ghost use Rattle.apdu.specs.Reading.{readPeerLink};
 ghost use Rattle.protocol.specs.Call.{invoke, result, error, reject};
 ghost use Rattle.protocol.specs.Perform.{perform};
-ghost use Rattle.protocol.specs.Reading.{forgetting, RequestPromise};
+ghost use Rattle.protocol.specs.Reading.{RequestPromise};
 
 // Requests an operation of the peer; an empty value is none.
 pub fn invoke(
     state: State,
+    store: &[u8],
     table: &[u8],
     id: OwnId,
     code: Code,
@@ -48,7 +48,7 @@ pub fn invoke(
     value: &[u8],
     out: &mut [u8],
 ) -> Requested
-    ensures { λ r. ⌜ RequestPromise (perform (now (table .entry)) state (invoke (id .0) code (readPeerLink linked) (now (value .entry)) (length (now (out .entry))))) state (now (value .entry)) (now (out .entry)) (now (out .exit)) r ⌝ }
+    ensures { λ r. ⌜ RequestPromise (perform (now (table .entry)) (record { state = state; store = now (store .entry) }) (invoke (id .0) code (readPeerLink linked) (now (value .entry)) (length (now (out .entry))))) (record { state = state; store = now (store .entry) }) (now (store .entry)) (now (value .entry)) (now (out .entry)) (now (out .exit)) r ⌝ }
 {
     let opened = opening_of(
         state.own.count,
@@ -63,6 +63,10 @@ pub fn invoke(
         &state.peer.lows,
         state.resting.count,
         &state.resting.ids,
+        state.kept.count,
+        &state.kept.ids,
+        &state.kept.lengths,
+        store,
         table,
         live(state.own.count, &state.own.ids),
         peer_parent(linked),
@@ -94,8 +98,15 @@ pub fn invoke(
 }
 
 // Answers an invocation of the peer's with a result; an empty value is none.
-pub fn result(state: State, table: &[u8], id: PeerId, value: &[u8], out: &mut [u8]) -> Requested
-    ensures { λ r. ⌜ RequestPromise (perform (now (table .entry)) state (result (id .0) (now (value .entry)) (length (now (out .entry))))) state (now (value .entry)) (now (out .entry)) (now (out .exit)) r ⌝ }
+pub fn result(
+    state: State,
+    store: &mut [u8],
+    table: &[u8],
+    id: PeerId,
+    value: &[u8],
+    out: &mut [u8],
+) -> Requested
+    ensures { λ r. ⌜ RequestPromise (perform (now (table .entry)) (record { state = state; store = now (store .entry) }) (result (id .0) (now (value .entry)) (length (now (out .entry))))) (record { state = state; store = now (store .entry) }) (now (store .exit)) (now (value .entry)) (now (out .entry)) (now (out .exit)) r ⌝ }
 {
     let opened = opening_of(
         state.own.count,
@@ -110,6 +121,10 @@ pub fn result(state: State, table: &[u8], id: PeerId, value: &[u8], out: &mut [u
         &state.peer.lows,
         state.resting.count,
         &state.resting.ids,
+        state.kept.count,
+        &state.kept.ids,
+        &state.kept.lengths,
+        store,
         table,
         0,
         Sought::Peer(id),
@@ -119,8 +134,11 @@ pub fn result(state: State, table: &[u8], id: PeerId, value: &[u8], out: &mut [u
         Verdict::Fails(why) => refused(state, why, checked.place),
         Verdict::Passes => {
             let found = opened.found;
-            let written = write_result(out, id, code_found(found), value);
-            accepted(state.retire_peer(id), written)
+            let code = code_found(found);
+            let written = write_result(out, id, code, value);
+            let keeps = keeps_answers(table, opened.entry, code);
+            let next = answered(state, store, keeps, id, between(out, 0, written));
+            accepted(next, written)
         }
     }
 }
@@ -128,13 +146,14 @@ pub fn result(state: State, table: &[u8], id: PeerId, value: &[u8], out: &mut [u
 // Answers an invocation of the peer's with an error; an empty value is none.
 pub fn error(
     state: State,
+    store: &mut [u8],
     table: &[u8],
     id: PeerId,
     code: Code,
     value: &[u8],
     out: &mut [u8],
 ) -> Requested
-    ensures { λ r. ⌜ RequestPromise (perform (now (table .entry)) state (error (id .0) code (now (value .entry)) (length (now (out .entry))))) state (now (value .entry)) (now (out .entry)) (now (out .exit)) r ⌝ }
+    ensures { λ r. ⌜ RequestPromise (perform (now (table .entry)) (record { state = state; store = now (store .entry) }) (error (id .0) code (now (value .entry)) (length (now (out .entry))))) (record { state = state; store = now (store .entry) }) (now (store .exit)) (now (value .entry)) (now (out .entry)) (now (out .exit)) r ⌝ }
 {
     let opened = opening_of(
         state.own.count,
@@ -149,6 +168,10 @@ pub fn error(
         &state.peer.lows,
         state.resting.count,
         &state.resting.ids,
+        state.kept.count,
+        &state.kept.ids,
+        &state.kept.lengths,
+        store,
         table,
         0,
         Sought::Peer(id),
@@ -157,15 +180,25 @@ pub fn error(
     match check_error(opened, table, id, code, value, checked, out.len()) {
         Verdict::Fails(why) => refused(state, why, checked.place),
         Verdict::Passes => {
+            let found = opened.found;
             let written = write_error(out, id, code, value);
-            accepted(state.retire_peer(id), written)
+            let keeps = keeps_answers(table, opened.entry, code_found(found));
+            let next = answered(state, store, keeps, id, between(out, 0, written));
+            accepted(next, written)
         }
     }
 }
 
 // Rejects an invocation of the peer's with invoke problem 2, 3 or 4.
-pub fn reject(state: State, table: &[u8], id: PeerId, problem: u8, out: &mut [u8]) -> Requested
-    ensures { λ r. ⌜ RequestPromise (perform (now (table .entry)) state (reject (id .0) problem (length (now (out .entry))))) state [] (now (out .entry)) (now (out .exit)) r ⌝ }
+pub fn reject(
+    state: State,
+    store: &[u8],
+    table: &[u8],
+    id: PeerId,
+    problem: u8,
+    out: &mut [u8],
+) -> Requested
+    ensures { λ r. ⌜ RequestPromise (perform (now (table .entry)) (record { state = state; store = now (store .entry) }) (reject (id .0) problem (length (now (out .entry))))) (record { state = state; store = now (store .entry) }) (now (store .entry)) [] (now (out .entry)) (now (out .exit)) r ⌝ }
 {
     let opened = opening_of(
         state.own.count,
@@ -180,6 +213,10 @@ pub fn reject(state: State, table: &[u8], id: PeerId, problem: u8, out: &mut [u8
         &state.peer.lows,
         state.resting.count,
         &state.resting.ids,
+        state.kept.count,
+        &state.kept.ids,
+        &state.kept.lengths,
+        store,
         table,
         0,
         Sought::Peer(id),
@@ -190,32 +227,5 @@ pub fn reject(state: State, table: &[u8], id: PeerId, problem: u8, out: &mut [u8
             let written = write_reject(out, Number::Of(id.0), 0x81, problem);
             accepted(state.retire_peer(id), written)
         }
-    }
-}
-
-// Retires an own record, whose id then rests, or a peer record whose class is neither 1 nor 2, with nothing sent.
-pub fn forget(state: State, table: &[u8], invocation: Invocation) -> Requested
-    ensures { λ r. ⌜ RequestPromise (perform (now (table .entry)) state (forgetting invocation)) state [] [] [] r ⌝ }
-{
-    let opened = opening_of(
-        state.own.count,
-        &state.own.ids,
-        &state.own.lengths,
-        &state.own.highs,
-        &state.own.lows,
-        state.peer.count,
-        &state.peer.ids,
-        &state.peer.lengths,
-        &state.peer.highs,
-        &state.peer.lows,
-        state.resting.count,
-        &state.resting.ids,
-        table,
-        0,
-        record_sought(invocation),
-    );
-    match check_forget(opened, table, invocation) {
-        Verdict::Fails(why) => refused(state, why, 0),
-        Verdict::Passes => accepted(forgotten(state, invocation), 0),
     }
 }

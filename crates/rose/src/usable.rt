@@ -6,12 +6,15 @@ use apdu::PeerLink;
 use codes::Code;
 use codes::Place;
 use optable::places::has_child_at;
+use optable::places::idempotent_in;
 use optable::places::is_child_at;
+use optable::service_of;
 use optable::valid;
 use records::Found;
 use records::OwnId;
 use records::PeerId;
 use records::State;
+use records::answers;
 use records::lent::live;
 use records::lent::own_found;
 use records::lent::peer_found;
@@ -30,7 +33,8 @@ ghost use Rattle.optable.specs.Validity.{valid};
 ghost use Rattle.optable.specs.Lookup.{childOf, hasChild, PlaceOf};
 ghost use Rattle.apdu.specs.Reading.{readOwnLink, readPeerLink};
 ghost use Rattle.protocol.specs.Check.{codeFound, isClass, isFull, isLinked};
-ghost use Rattle.rose.specs.Steps.{stateOf, isFound, foundBy, soughtIn, OpensFor};
+ghost use Rattle.protocol.specs.Service.{keepsAnswers};
+ghost use Rattle.rose.specs.Steps.{heldOf, isFound, foundBy, soughtIn, OpensFor};
 
 // The record that a call asks for: of an invocation that this end made, or received, or none.
 pub(crate) enum Sought {
@@ -91,15 +95,27 @@ pub(crate) fn opening_of<'a>(
     peer_lows: &'a [u64; State::RECORDS],
     resting_count: usize,
     resting_ids: &'a [u32; State::RESTING],
+    kept_count: usize,
+    kept_ids: &'a [u32; State::ANSWERS],
+    kept_lengths: &'a [u32; State::ANSWERS],
+    store: &'a [u8],
     table: &[u8],
     asked: usize,
     sought: Sought,
 ) -> Opening
-    ensures { λ r. ⌜ OpensFor (now (table .entry)) (stateOf (lent «own_count» (now («own_ids» .entry)) (now («own_lengths» .entry)) (now («own_highs» .entry)) (now («own_lows» .entry))) (lent «peer_count» (now («peer_ids» .entry)) (now («peer_lengths» .entry)) (now («peer_highs» .entry)) (now («peer_lows» .entry))) (record { count = «resting_count»; ids = now («resting_ids» .entry) })) asked sought r ⌝ }
+    ensures { λ r. ⌜ OpensFor (now (table .entry)) (heldOf (lent «own_count» (now («own_ids» .entry)) (now («own_lengths» .entry)) (now («own_highs» .entry)) (now («own_lows» .entry))) (lent «peer_count» (now («peer_ids» .entry)) (now («peer_lengths» .entry)) (now («peer_highs» .entry)) (now («peer_lows» .entry))) (record { count = «resting_count»; ids = now («resting_ids» .entry) }) (record { count = «kept_count»; ids = now («kept_ids» .entry); lengths = now («kept_lengths» .entry) }) (now (store .entry))) asked sought r ⌝ }
 {
     let is_sound = sound(own_count, own_ids, own_lengths, own_highs, own_lows)
         & (sound(peer_count, peer_ids, peer_lengths, peer_highs, peer_lows)
-            & rest::sound(resting_count, resting_ids, own_count, own_ids));
+            & (rest::sound(resting_count, resting_ids, own_count, own_ids)
+                & answers::sound(
+                    kept_count,
+                    kept_ids,
+                    kept_lengths,
+                    store,
+                    peer_count,
+                    peer_ids,
+                )));
     let found = record_of(
         own_count,
         own_ids,
@@ -221,6 +237,13 @@ pub(crate) fn is_no_child(table: &[u8], linked: bool, parent: u16, child: Place)
         return !is_child_at(table, Place::At(parent), child);
     }
     false
+}
+
+// Whether an answer to an operation, which stands at `entry`, is kept, by a valid table.
+pub(crate) fn keeps_answers(table: &[u8], entry: u16, code: Code) -> bool
+    ensures { λ r. ⌜ (PlaceOf (now (table .entry)) Operations code (At entry) → valid (now (table .entry)) ≡ true → r ≡ keepsAnswers (now (table .entry)) code) ⌝ }
+{
+    !idempotent_in(table, Place::At(entry)) & !service_of(code).answers_itself()
 }
 
 // Whether a class that makes a record finds its side full.

@@ -1,5 +1,5 @@
 //! What the six calls answer: indications, refusals and problems.
-//! Follows document 01, "Receiving" and the table of refusal numbers, with document 02, requests Four to Six.
+//! Follows document 01, "Receiving" and the table of refusal numbers, with document 02, requests Four to Seven.
 
 use crate::code::Code;
 
@@ -17,7 +17,13 @@ pub const REFUSALS: [(&str, &[u8]); 6] = [
 #[derive(Clone, Copy, Debug, PartialEq, Eq)]
 pub enum Answer<'a> {
     Indicated(Indication<'a>),
-    Sent { written: usize },
+    /// Receive answered a probe or acknowledge itself.
+    Answered {
+        written: usize,
+    },
+    Sent {
+        written: usize,
+    },
     Forgotten,
     Refused(Refusal),
 }
@@ -30,7 +36,9 @@ impl<'a> Answer<'a> {
     /// How many octets the call wrote.
     pub fn written(&self) -> usize {
         match *self {
-            Answer::Sent { written } | Answer::Refused(Refusal::Rejected { written, .. }) => written,
+            Answer::Sent { written }
+            | Answer::Answered { written }
+            | Answer::Refused(Refusal::Rejected { written, .. }) => written,
             _ => 0,
         }
     }
@@ -53,7 +61,27 @@ impl<'a> Answer<'a> {
     }
 }
 
-/// What an accepted receive shows. Values are parts of the lent APDU, identifier included.
+impl<'a> From<Received<'a>> for Answer<'a> {
+    fn from(received: Received<'a>) -> Self {
+        match received {
+            Received::Indicated(indication) => Answer::Indicated(indication),
+            Received::Answered { result, kept } => Answer::Answered { written: result + kept },
+        }
+    }
+}
+
+/// What an accepted receive gives.
+#[derive(Clone, Copy, Debug, PartialEq, Eq)]
+pub enum Received<'a> {
+    Indicated(Indication<'a>),
+    /// Nothing to be indicated: a result of so many octets was written, and behind it a kept answer of so many.
+    Answered {
+        result: usize,
+        kept: usize,
+    },
+}
+
+/// What an indication shows. Values are parts of the lent APDU, identifier included.
 #[derive(Clone, Copy, Debug, PartialEq, Eq)]
 pub enum Indication<'a> {
     Invoke {

@@ -118,6 +118,14 @@ fn read_reject<'a>(fields: &mut Fields<'a>) -> Option<Apdu<'a>> {
     right.then_some(Apdu::Reject { id, problem })
 }
 
+/// The result at the front of what receive wrote to answer a probe or acknowledge, and the kept answer behind it.
+pub fn split_result(written: &[u8]) -> (&[u8], &[u8]) {
+    match octets::split(written, State::LEVELS) {
+        Some((result, kept)) => (result.whole, kept),
+        None => (written, &[]),
+    }
+}
+
 /// An APDU to write; no value is an empty slice.
 #[derive(Clone, Copy)]
 pub enum Outgoing<'a> {

@@ -31,9 +31,10 @@ impl Generator<'_> {
         if self.fault() && self.random.percent(4) {
             apdu.resize(4094 + self.random.below(6), 0);
         }
+        let room = self.room();
         let lent = match self.fault() {
-            true => [0, 10, self.random.below(11)][self.random.below(3)],
-            false => [11, 11, 12, 20, 64][self.random.below(5)],
+            true => [0, room - 1, self.random.below(room)][self.random.below(3)],
+            false => room + [0, 0, 1, 9, 53][self.random.below(5)],
         };
         self.call(Frame { kind: frame::RECEIVE, lent: lent as u16, payload: &apdu, ..Frame::default() });
     }
@@ -56,9 +57,10 @@ impl Generator<'_> {
         let known = row.filter(|_| !self.fault()).map(|row| row.code.into());
         fields.push(self.code(known));
         let rule = row.map_or(Rule { kind: 0, optional: false }, |row| row.argument_rule());
-        fields.push(match !listed && self.random.percent(25) {
-            true => self.wrong_value(rule),
-            false => self.value(rule),
+        fields.push(match row {
+            _ if !listed && self.random.percent(25) => self.wrong_value(rule),
+            Some(row) => self.argument(row),
+            None => self.value(rule),
         });
         self.apdu(0xA1, fields)
     }

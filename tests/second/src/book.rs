@@ -1,5 +1,5 @@
 //! The book kept beside a list of calls at a kiosk and a controller, and the conclusions drawn from it.
-//! Follows document 01, "The book for demand 3"; it never looks at a state.
+//! Follows document 01, "The book for demand 3", with document 02, request Seven; it never looks at a state.
 
 use std::collections::{HashMap, HashSet};
 
@@ -8,6 +8,7 @@ use crate::apdu::{self, Apdu};
 use crate::code::Code;
 use crate::frame::{self, Frame};
 use crate::octets;
+use crate::probe::{ACKNOWLEDGE, PROBE};
 use crate::show;
 use crate::table::Table;
 
@@ -15,6 +16,15 @@ use crate::table::Table;
 pub enum End {
     Kiosk,
     Controller,
+}
+
+impl End {
+    pub fn other(self) -> End {
+        match self {
+            End::Kiosk => End::Controller,
+            End::Controller => End::Kiosk,
+        }
+    }
 }
 
 /// A result (with no error code) or an error, given by the controller's caller or indicated at the kiosk.
@@ -27,7 +37,7 @@ struct Given {
 }
 
 /// What must occur often enough in a long run.
-pub const ROWS: [&str; 30] = [
+pub const ROWS: [&str; 46] = [
     "results",
     "absent results",
     "errors",
@@ -58,6 +68,22 @@ pub const ROWS: [&str; 30] = [
     "answers, O of edition 1 and N of edition 2",
     "answers, O of edition 2 and N of edition 1",
     "answers, both tables of edition 2",
+    "answers, O lists probe and acknowledge",
+    "answers, O lists acknowledge alone",
+    "answers, O lists neither, N does",
+    "answers, both tables list neither",
+    "probes answered: running",
+    "probes answered: finished",
+    "probes answered: unknown",
+    "acknowledges answered: acknowledged",
+    "acknowledges answered: unknown",
+    "results of a probe",
+    "results of an acknowledge",
+    "lost answers fetched by a probe and indicated",
+    "fetched answers that were not lost and are late or repeated",
+    "probes and acknowledges sent beside a synchronous invocation",
+    "kept answers dropped by an Invoke with their id",
+    "answers to the controller's probes and acknowledges",
 ];
 
 /// The book of one association, and how often each row occurred.
@@ -70,7 +96,16 @@ pub struct Book {
     answers: HashMap<Vec<u8>, Vec<Given>>,
     live: HashSet<i32>,
     indicated: HashSet<i32>,
-    pub counts: [u64; ROWS.len()],
+    pub counts: Counts,
+}
+
+/// How often each row occurred.
+pub struct Counts(pub [u64; ROWS.len()]);
+
+impl Default for Counts {
+    fn default() -> Self {
+        Counts([0; ROWS.len()])
+    }
 }
 
 impl Book {
@@ -92,11 +127,11 @@ impl Book {
     }
 
     pub fn count_if(&mut self, occurred: bool, row: &str) {
-        self.counts[place(row)] += u64::from(occurred);
+        self.counts.0[place(row)] += u64::from(occurred);
     }
 
     pub fn has_counted(&self, row: &str) -> bool {
-        self.counts[place(row)] > 0
+        self.counts.0[place(row)] > 0
     }
 
     /// Checks the conclusions for a call and notes it; says what is wrong otherwise.
@@ -120,12 +155,16 @@ impl Book {
         if answer.is_accepted() {
             match end {
                 End::Kiosk => self.note_kiosk(o, frame)?,
-                End::Controller => self.note_controller(frame, written),
+                End::Controller => self.note_controller(frame, answer, written)?,
             }
         }
-        if !written.is_empty() {
-            self.wire[end as usize].push(written.to_vec());
-        }
+        // One receive may write two APDUs: a result, and the kept answer behind it.
+        let (first, second) = match answer {
+            Answer::Answered { .. } => apdu::split_result(written),
+            _ => (written, &[][..]),
+        };
+        let apdus = [first, second].into_iter().filter(|apdu| !apdu.is_empty());
+        self.wire[end as usize].extend(apdus.map(<[u8]>::to_vec));
         Ok(())
     }
 
@@ -182,6 +221,8 @@ impl Book {
         self.count(row);
         self.count_if(error.is_none() && matches!(operation, Code::Name(_)), "results of an operation with a name");
         self.count_if(matches!(error, Some(Code::Name(_))), "errors with a name");
+        self.count_if(operation == Code::Local(PROBE), "results of a probe");
+        self.count_if(operation == Code::Local(ACKNOWLEDGE), "results of an acknowledge");
         Ok(())
     }
 
@@ -216,7 +257,7 @@ impl Book {
         Ok(())
     }
 
-    fn note_controller(&mut self, frame: &Frame<'_>, written: &[u8]) {
+    fn note_controller(&mut self, frame: &Frame<'_>, answer: &Answer<'_>, written: &[u8]) -> Result<(), String> {
         match (frame.kind, apdu::read(frame.payload)) {
             (frame::RECEIVE, Ok(Apdu::Invoke(invoke))) => {
                 if let Some(code) = invoke.code {
@@ -224,6 +265,9 @@ impl Book {
                 }
                 let indefinite = invoke.value.is_some_and(octets::is_indefinite);
                 self.count_if(indefinite, "invokes heard with an indefinite value");
+                if let Answer::Answered { .. } = answer {
+                    self.note_answered(invoke.id, written)?;
+                }
             }
             (frame::RESULT | frame::ERROR, _) => {
                 let row = match frame.kind {
@@ -237,11 +281,39 @@ impl Book {
                     error: frame.asked().code().filter(|_| frame.kind == frame::ERROR),
                     value: (!frame.value().is_empty()).then(|| frame.value().to_vec()),
                 };
-                self.answers.entry(written.to_vec()).or_default().push(given.clone());
-                self.given.entry(frame.id).or_default().push(given);
+                self.give(given, written);
             }
             _ => {}
         }
+        Ok(())
+    }
+
+    /// The controller's receive answered a probe or acknowledge: its result counts as given, and the APDU behind it is
+    /// one that was given before.
+    fn note_answered(&mut self, id: i32, written: &[u8]) -> Result<(), String> {
+        let (result, kept) = apdu::split_result(written);
+        let Ok(Apdu::Result { returned: Some((_, value)), .. }) = apdu::read(result) else {
+            return Err(format!("{} answers a probe or acknowledge", show::hex(written)));
+        };
+        if !kept.is_empty() && !self.answers.contains_key(kept) {
+            return Err(format!("the kept answer {} was never given", show::hex(kept)));
+        }
+        let operation = self.heard.get(&id).copied();
+        self.count(match (operation == Some(Code::Local(PROBE)), value.last()) {
+            (true, Some(0)) => "probes answered: running",
+            (true, Some(1)) => "probes answered: finished",
+            (true, _) => "probes answered: unknown",
+            (false, Some(0)) => "acknowledges answered: acknowledged",
+            (false, _) => "acknowledges answered: unknown",
+        });
+        self.give(Given { id, operation, error: None, value: Some(value.to_vec()) }, result);
+        Ok(())
+    }
+
+    /// Notes what was given, and the APDU that is the answer.
+    fn give(&mut self, given: Given, apdu: &[u8]) {
+        self.answers.entry(apdu.to_vec()).or_default().push(given.clone());
+        self.given.entry(given.id).or_default().push(given);
     }
 }
 

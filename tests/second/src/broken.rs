@@ -4,6 +4,7 @@ use crate::code::{self, Code, Name};
 use crate::first_fault::{LONGEST_FILE, RULES};
 use crate::model::{any_type, Model, OperationRow};
 use crate::names;
+use crate::probe_rows;
 use crate::random::Random;
 
 /// Breaks a rule in the rows of a table, or in its octets; none where the table has no place for it.
@@ -70,6 +71,11 @@ const BREAKS: [Break; RULES.len()] = [
         model.operations[at].code = at_most(model.operations[at - 1].code, model.names(), random);
         Some(())
     }),
+    Rows(probe_rows::break_class),
+    Rows(probe_rows::break_argument),
+    Rows(probe_rows::break_result),
+    Rows(probe_rows::break_optional),
+    Rows(probe_rows::break_pair),
     Rows(|model, random| count(model, 1, random)),
     Rows(|model, random| {
         let at = any(model.errors.len(), random)?;

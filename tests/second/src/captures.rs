@@ -6,6 +6,7 @@ use crate::days::{self, Logged, SENT};
 use crate::faults;
 use crate::generate::Generator;
 use crate::model::Model;
+use crate::probe_days;
 use crate::random::Random;
 use crate::slips::SLIPS;
 use crate::state::State;
@@ -21,11 +22,11 @@ pub struct Drawn {
 
 /// How many sorts there are; the seed's remainder says which one is drawn.
 pub fn sorts() -> usize {
-    PLAIN.len() + SLIPS.len() + CHANGES.len() + DAMAGES.len() + TABLES.len()
+    PLAIN.len() + SLIPS.len() + probe_days::SLIPS.len() + CHANGES.len() + DAMAGES.len() + TABLES.len()
 }
 
 /// Days as they were.
-pub const PLAIN: [&str; 12] = [
+pub const PLAIN: [&str; 14] = [
     "a day of few entries",
     "a day",
     "another day",
@@ -38,6 +39,8 @@ pub const PLAIN: [&str; 12] = [
     "a day with 32 records of each side",
     "a day with an id asked for again after its answer",
     "a day with an id asked for again after 64 more forgets",
+    "a day with probes and acknowledges",
+    "a day with more than eight answers and probes",
 ];
 
 /// Tables that are not valid.
@@ -65,12 +68,14 @@ pub fn draw(seed: u64) -> Drawn {
 
 fn attempt(seed: u64, sort: usize) -> Drawn {
     let slips = PLAIN.len();
-    let changes = slips + SLIPS.len();
+    let probed = slips + SLIPS.len();
+    let changes = probed + probe_days::SLIPS.len();
     let damages = changes + CHANGES.len();
     let tables = damages + DAMAGES.len();
     match sort {
         sort if sort < slips => plain(seed, sort),
-        sort if sort < changes => slipped(seed, sort - slips),
+        sort if sort < probed => slipped(seed, sort - slips),
+        sort if sort < changes => slipped_probe(seed, sort - probed),
         sort if sort < damages => changed(seed, sort - changes),
         sort if sort < tables => damaged(seed, sort - damages),
         sort => wrong_table(seed, sort - tables),
@@ -83,6 +88,13 @@ fn end<'w>(seed: u64) -> Generator<'w> {
         true => faults::rich_of_either(random, 50),
         false => Model::random(random),
     })
+}
+
+/// A table of all classes with probe and acknowledge.
+fn probed(random: &mut Random) -> Model {
+    let mut model = faults::rich_of_either(random, 50);
+    model.add_probe(random, true);
+    model
 }
 
 /// A table with an operation that takes long arguments.
@@ -102,6 +114,7 @@ fn plain(seed: u64, sort: usize) -> Drawn {
         8 if seed % 16 > 0 => Generator::of_a_day(seed, Model::full_of_names),
         8 => Generator::of_a_day(seed, Model::full),
         10 | 11 => Generator::of_a_day(seed, |random| faults::rich_of_either(random, 50)),
+        12 | 13 => Generator::of_a_day(seed, probed),
         _ => end(seed),
     };
     let few = end.random.between(1, 8);
@@ -120,6 +133,13 @@ fn plain(seed: u64, sort: usize) -> Drawn {
         10 | 11 => {
             end.live_on(few);
             end.ask_twice(sort == 11);
+            end.live_on(few);
+        }
+        12 | 13 => {
+            end.probe_day(if sort == 12 { few } else { 12 + few });
+            if sort == 13 {
+                end.probe_the_oldest();
+            }
             end.live_on(few);
         }
         _ => end.live_on(10 + 5 * few),
@@ -141,6 +161,25 @@ fn slipped(seed: u64, sort: usize) -> Drawn {
             }
             Some(false) => break,
             None => end.live_on(1),
+        }
+    }
+    drawn(name, Some(way), &mut end)
+}
+
+/// A day with probes that differs in what receive wrote.
+fn slipped_probe(seed: u64, sort: usize) -> Drawn {
+    let (name, way, slip) = probe_days::SLIPS[sort];
+    let mut end = Generator::of_a_day(seed, probed);
+    let (rounds, behind) = (end.random.between(1, 10), end.random.below(8));
+    end.probe_day(rounds);
+    for _ in 0..20 {
+        match slip(&mut end) {
+            Some(true) => {
+                end.live_on(behind);
+                break;
+            }
+            Some(false) => break,
+            None => end.probe_day(1),
         }
     }
     drawn(name, Some(way), &mut end)

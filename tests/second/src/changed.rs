@@ -54,10 +54,10 @@ pub const CHANGES: &[(&str, Change)] = &[
     ("the other side in a forget", |day, random| {
         with(day, random, |entry| entry.kind == FORGET, |day, at, _| day[at].octets[0] ^= 1)
     }),
-    ("an awaited Reject dropped", |day, random| {
+    ("an awaited APDU dropped", |day, random| {
         with(day, random, |entry| entry.awaited, |day, at, _| drop(day.remove(at)))
     }),
-    ("an awaited Reject moved on", |day, random| {
+    ("an awaited APDU moved on", |day, random| {
         with(
             day,
             random,
@@ -68,7 +68,7 @@ pub const CHANGES: &[(&str, Change)] = &[
             },
         )
     }),
-    ("an awaited Reject moved to the end", |day, random| {
+    ("an awaited APDU moved to the end", |day, random| {
         with(
             day,
             random,
@@ -79,7 +79,7 @@ pub const CHANGES: &[(&str, Change)] = &[
             },
         )
     }),
-    ("an awaited Reject twice", |day, random| {
+    ("an awaited APDU twice", |day, random| {
         with(day, random, |entry| entry.awaited, |day, at, _| day.insert(at, day[at].clone()))
     }),
     ("the day cut behind any entry", |day, random| with(day, random, |_| true, |day, at, _| day.truncate(at + 1))),
@@ -103,7 +103,7 @@ pub const CHANGES: &[(&str, Change)] = &[
         let sent = |entry: &Logged| entry.kind == SENT;
         with(day, random, sent, |day, at, random| changed(&mut day[at], |octets| damage_closing(random, octets)))
     }),
-    ("a Reject nobody called for", |day, random| {
+    ("an awaited APDU again elsewhere", |day, random| {
         with(
             day,
             random,

@@ -1,12 +1,13 @@
-//! What the two ends meet besides the book: how O and N differ about an answer, and resting ids.
+//! What the two ends meet besides the book: how O and N differ about an answer, resting ids, and kept answers.
 
 use crate::answer::{Answer, Indication, Problem, Refusal};
 use crate::apdu::{self, Apdu};
-use crate::book::Book;
+use crate::book::{Book, End};
 use crate::code::Code;
 use crate::codes;
 use crate::frame::{self, Frame};
 use crate::model::Model;
+use crate::probe::{self, ACKNOWLEDGE, PROBE};
 use crate::state::State;
 
 /// Counts in what O and N differ about an operation whose answer reached the kiosk.
@@ -24,6 +25,40 @@ pub fn count_answer(book: &mut Book, [o, n]: &[Model; 2], answer: &Answer<'_>) {
         (true, false) => "answers, O of edition 2 and N of edition 1",
         (true, true) => "answers, both tables of edition 2",
     });
+    let lists = |model: &Model, code: i32| model.operation(Code::Local(code)).is_some();
+    book.count(match (lists(o, PROBE), lists(o, ACKNOWLEDGE), lists(n, ACKNOWLEDGE)) {
+        (true, ..) => "answers, O lists probe and acknowledge",
+        (_, true, _) => "answers, O lists acknowledge alone",
+        (.., true) => "answers, O lists neither, N does",
+        _ => "answers, both tables list neither",
+    });
+}
+
+/// Counts an answer of the controller that a probe fetched and that now reached the kiosk; `lost` is whether it was lost
+/// when it was sent first.
+pub fn count_fetched(book: &mut Book, lost: bool, answer: &Answer<'_>) {
+    match answered(answer) {
+        Some(_) => book.count_if(lost, "lost answers fetched by a probe and indicated"),
+        None => book.count_if(!lost, "fetched answers that were not lost and are late or repeated"),
+    }
+}
+
+/// Counts what a call has to do with kept answers and with the operations that receive answers.
+pub fn count_kept(book: &mut Book, (end, model): (End, &Model), before: &State, seen: (&Frame<'_>, &Answer<'_>)) {
+    match (end, seen) {
+        (End::Kiosk, (frame, Answer::Sent { .. })) if frame.kind == frame::INVOKE => {
+            let is_probe = frame.asked().code().is_some_and(|code| probe::is_answered_here(&code));
+            let beside = before.own.live().iter().any(|record| model.class(record.code) == Some(1));
+            book.count_if(is_probe && beside, "probes and acknowledges sent beside a synchronous invocation");
+        }
+        (End::Controller, (_, Answer::Indicated(Indication::Invoke { id, .. }))) => {
+            book.count_if(before.kept.find(*id).is_some(), "kept answers dropped by an Invoke with their id");
+        }
+        (End::Kiosk, (_, Answer::Answered { .. })) => {
+            book.count("answers to the controller's probes and acknowledges");
+        }
+        _ => {}
+    }
 }
 
 /// The operation of a result or error that is indicated.

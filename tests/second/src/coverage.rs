@@ -5,12 +5,17 @@ use crate::faults;
 use crate::forms;
 use crate::frame;
 use crate::generate::{self, Group, Label, Seen};
+use crate::insides;
+use crate::kept_calls::{FETCHED, GIVEN, NOT_FETCHED};
+use crate::kept_rows;
+use crate::kept_states;
 use crate::looked_up;
 use crate::model::Model;
 use crate::named;
 use crate::observe::{accepted_kinds, expects, record_limits, rejected_id_is_live, sort, value_limits};
 use crate::oddities::{ARRIVALS, VALUES};
 use crate::placed;
+use crate::probed;
 use crate::rested;
 use crate::resting_calls::{ASKED_AGAIN, FORGOTTEN, STILL_RESTING};
 use crate::resting_states;
@@ -45,7 +50,7 @@ const PROBLEMS: [&str; 20] = [
     "83 04",
 ];
 
-const ACCEPTED: [&str; 26] = [
+const ACCEPTED: [&str; 27] = [
     "invoke with value",
     "invoke without value",
     "linked invoke",
@@ -60,6 +65,7 @@ const ACCEPTED: [&str; 26] = [
     "reject-u 81 without record",
     "reject-u 82",
     "reject-u 83",
+    "answered",
     "sent invoke with value",
     "sent invoke without value",
     "sent linked invoke",
@@ -131,6 +137,18 @@ const LIMITS: [&str; 52] = [
 
 const PARTS: [&str; 5] = ["operations", "errors", "error pairs", "child pairs", "names"];
 
+/// What a call can follow.
+const FOLLOWED: [&str; 8] = [
+    "an invoke",
+    "an answer",
+    "a reject",
+    "an answered probe or acknowledge",
+    "a request",
+    "a forget",
+    "refusal 18",
+    "another refusal",
+];
+
 /// How often each row occurred.
 pub struct Coverage {
     rows: Rows,
@@ -160,10 +178,10 @@ impl Default for Coverage {
         placed::rows().into_iter().for_each(|row| coverage.row(row));
         named::rows().into_iter().for_each(|row| coverage.row(row));
         rested::rows().into_iter().for_each(|row| coverage.row(row));
+        probed::rows().into_iter().for_each(|row| coverage.row(row));
+        kept_rows::rows().into_iter().for_each(|row| coverage.row(row));
         coverage.row("limit: table of 5144 octets, accepted".to_string());
-        for kind in ["an invoke", "an answer", "a reject", "a request", "a forget", "refusal 18", "another refusal"] {
-            coverage.row(format!("follow-up: accepted after {kind}"));
-        }
+        FOLLOWED.iter().for_each(|kind| coverage.row(format!("follow-up: accepted after {kind}")));
         coverage
     }
 }
@@ -207,6 +225,8 @@ impl Coverage {
         placed::rows_of(call, seen).into_iter().for_each(|row| self.count(row));
         named::rows_of(call, seen).into_iter().for_each(|row| self.count(row));
         rested::rows_of(call, seen).into_iter().for_each(|row| self.count(row));
+        probed::rows_of(seen).into_iter().for_each(|row| self.count(row));
+        kept_rows::rows_of(seen).into_iter().for_each(|row| self.count(row));
         if let Some(label) = seen.label.filter(|label| expects(label.0, seen)) {
             self.count(label_row(label));
         }
@@ -263,10 +283,15 @@ fn groups() -> Vec<(Group, Vec<&'static str>)> {
     let mut groups = vec![
         (Group::InvalidTable, faults::table_names()),
         (Group::UnsoundState, faults::states().into_iter().map(|(name, _)| name).collect()),
-        (Group::SoundState, resting_states::SOUND.iter().map(|(name, _)| *name).collect()),
+        (Group::SoundState, resting_states::SOUND.iter().chain(kept_states::SOUND).map(|(name, _)| *name).collect()),
         (Group::Forgotten, FORGOTTEN.to_vec()),
         (Group::AskedAgain, ASKED_AGAIN.to_vec()),
         (Group::StillResting, STILL_RESTING.to_vec()),
+        (Group::RightInside, insides::RIGHT.iter().map(|(name, ..)| *name).collect()),
+        (Group::WrongInside, insides::WRONG.iter().map(|(name, ..)| *name).collect()),
+        (Group::KeptInARow, GIVEN.to_vec()),
+        (Group::Fetched, FETCHED.to_vec()),
+        (Group::NotFetched, NOT_FETCHED.to_vec()),
         (Group::Damaged, vec!["octets changed, dropped or added", "00 00 dropped, repeated, changed or added"]),
     ];
     let lists = ARRIVALS.iter().chain(VALUES);

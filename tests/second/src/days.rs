@@ -23,7 +23,7 @@ pub const FORGET: u8 = 2;
 pub struct Logged {
     pub kind: u8,
     pub octets: Vec<u8>,
-    /// Whether it is the Reject that the entry before it called for.
+    /// Whether it is an APDU that receive wrote.
     pub awaited: bool,
 }
 
@@ -42,7 +42,7 @@ impl Logged {
     }
 }
 
-/// Keeps what a call received, sent or forgot, and the Reject behind a refused APDU.
+/// Keeps what a call received, sent or forgot, and what receive wrote.
 pub(crate) fn note(day: &mut Vec<Logged>, frame: &Frame<'_>, answer: &Answer<'_>, written: &[u8]) {
     match answer {
         Answer::Indicated(_) | Answer::Refused(Refusal::UnacceptableReject { .. }) => {
@@ -51,6 +51,12 @@ pub(crate) fn note(day: &mut Vec<Logged>, frame: &Frame<'_>, answer: &Answer<'_>
         Answer::Refused(Refusal::Rejected { .. }) if !frame.payload.is_empty() => {
             day.push(Logged::new(RECEIVED, frame.payload));
             day.push(Logged { awaited: true, ..Logged::new(SENT, written) });
+        }
+        Answer::Answered { .. } => {
+            day.push(Logged::new(RECEIVED, frame.payload));
+            let (result, kept) = apdu::split_result(written);
+            let sent = [result, kept].into_iter().filter(|octets| !octets.is_empty());
+            day.extend(sent.map(|octets| Logged { awaited: true, ..Logged::new(SENT, octets) }));
         }
         Answer::Sent { .. } => day.push(Logged::new(SENT, written)),
         Answer::Forgotten => day.push(Logged::forget(u8::from(frame.detail != 0), frame.id)),
@@ -116,7 +122,8 @@ impl Generator<'_> {
     }
 
     pub(crate) fn arrive(&mut self, octets: &[u8]) {
-        self.call(Frame { kind: frame::RECEIVE, lent: 11, payload: octets, ..Frame::default() });
+        let lent = self.room() as u16;
+        self.call(Frame { kind: frame::RECEIVE, lent, payload: octets, ..Frame::default() });
     }
 
     /// An APDU that was received before.

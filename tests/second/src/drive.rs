@@ -71,10 +71,12 @@ impl Drive {
 
     fn call<'a>(&mut self, frame: &Frame<'a>) -> Answer<'a> {
         self.output[..usize::from(frame.lent)].fill(FILLER);
-        for _ in 1..self.times {
-            let state = self.state.clone();
-            black_box(self.answer(frame));
-            self.state = state;
+        if self.times > 1 {
+            let before = self.state.clone();
+            for _ in 1..self.times {
+                black_box(self.answer(frame));
+                self.state.restore(&before);
+            }
         }
         self.answer(frame)
     }
@@ -85,7 +87,7 @@ impl Drive {
         let (table, state) = (&self.table[..], &mut self.state);
         let sent = match frame.kind {
             frame::RECEIVE => {
-                return engine::receive(table, state, value, output).map_or_else(Answer::Refused, Answer::Indicated)
+                return engine::receive(table, state, value, output).map_or_else(Answer::Refused, Answer::from)
             }
             frame::INVOKE => engine::request_invoke(table, state, (id, frame.linked_id(), code), value, output),
             frame::RESULT => engine::request_result(table, state, id, value, output),

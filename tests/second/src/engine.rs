@@ -1,16 +1,17 @@
 //! The six calls: receive, the four requests and forget. A refused call leaves the state as given.
 //! Follows document 01, "Receiving, in order of check" and "Requests, in order of check", with document 02, requests
-//! Four to Six.
+//! Four to Seven.
 
-use crate::answer::{Indication, Problem, Refusal};
+use crate::answer::{Indication, Problem, Received, Refusal};
 use crate::apdu::{self, Apdu, Invoke, Outgoing};
 use crate::code::{Asked, Code};
 use crate::fault;
 use crate::octets;
+use crate::probe;
 use crate::state::{Side, State};
 use crate::table::{Operation, Rule, Table};
 
-/// The longest Reject; receive needs room for it.
+/// The longest Reject; receive needs room for it, and for more where the table has a probe or acknowledge.
 pub const REJECT_OCTETS: usize = 11;
 
 /// Which side's record to forget.
@@ -37,40 +38,43 @@ fn open<'t>(table: &'t [u8], state: &State) -> Result<Table<'t>, Refusal> {
     }
 }
 
-/// Takes a received APDU: an indication, or a refusal with a Reject written (18) or without.
+/// Takes a received APDU: an indication, an answer to a probe or acknowledge, or a refusal with a Reject written (18)
+/// or without.
 pub fn receive<'a>(
     table: &[u8],
     state: &mut State,
     octets: &'a [u8],
     output: &mut [u8],
-) -> Result<Indication<'a>, Refusal> {
+) -> Result<Received<'a>, Refusal> {
     let table = open(table, state)?;
     if octets.len() > State::OCTETS {
         return Err(Refusal::ReceivedTooLong);
     }
-    if output.len() < REJECT_OCTETS {
+    if output.len() < table.listed.room(REJECT_OCTETS) {
         return Err(Refusal::ShortOutput);
     }
-    let mut reject = |id, problem| {
+    let reject = |output: &mut [u8], id, problem| {
         let written = Outgoing::Reject { id, problem }.write(output);
         let place = fault_place(octets, problem);
         Refusal::Rejected { problem, written, place }
     };
     match apdu::read(octets) {
         Ok(Apdu::Invoke(invoke)) => {
-            receive_invoke(&table, state, invoke).map_err(|problem| reject(Some(invoke.id), problem))
+            receive_invoke(&table, state, invoke, output).map_err(|problem| reject(output, Some(invoke.id), problem))
         }
         Ok(Apdu::Result { id, returned }) => {
-            receive_result(&table, state, id, returned).map_err(|problem| reject(Some(id), problem))
+            let received = receive_result(&table, state, id, returned).map(Received::Indicated);
+            received.map_err(|problem| reject(output, Some(id), problem))
         }
         Ok(Apdu::Error { id, code, value }) => {
-            receive_error(&table, state, id, code, value).map_err(|problem| reject(Some(id), problem))
+            let received = receive_error(&table, state, id, code, value).map(Received::Indicated);
+            received.map_err(|problem| reject(output, Some(id), problem))
         }
-        Ok(Apdu::Reject { id, problem }) => Ok(receive_reject(state, id, problem)),
+        Ok(Apdu::Reject { id, problem }) => Ok(Received::Indicated(receive_reject(state, id, problem))),
         Err(unreadable) if octets.first() == Some(&apdu::REJECT) => {
             Err(Refusal::UnacceptableReject { place: fault_place(octets, unreadable.problem) })
         }
-        Err(unreadable) => Err(reject(unreadable.id, unreadable.problem)),
+        Err(unreadable) => Err(reject(output, unreadable.id, unreadable.problem)),
     }
 }
 
@@ -82,7 +86,12 @@ fn fault_place(octets: &[u8], problem: Problem) -> usize {
     }
 }
 
-fn receive_invoke<'a>(table: &Table, state: &mut State, invoke: Invoke<'a>) -> Result<Indication<'a>, Problem> {
+fn receive_invoke<'a>(
+    table: &Table,
+    state: &mut State,
+    invoke: Invoke<'a>,
+    output: &mut [u8],
+) -> Result<Received<'a>, Problem> {
     let Invoke { id, linked, code, value } = invoke;
     if state.peer.find(id).is_some() {
         return Err(Problem::DUPLICATE_INVOCATION);
@@ -95,13 +104,17 @@ fn receive_invoke<'a>(table: &Table, state: &mut State, invoke: Invoke<'a>) -> R
             return Err(Problem::LINKED_RESPONSE_UNEXPECTED);
         }
     }
-    let operation = code.and_then(|code| table.operation(&code));
-    let operation = operation.ok_or(Problem::UNRECOGNIZED_OPERATION)?;
+    let operation = code.and_then(|code| table.operation(&code)).ok_or(Problem::UNRECOGNIZED_OPERATION)?;
     if !operation.argument.allows(value) {
         return Err(Problem::MISTYPED_ARGUMENT);
     }
+    let asked = asked_about(&operation, value)?;
     if parent.is_some_and(|parent| !table.lists_child(&parent, &operation)) {
         return Err(Problem::UNEXPECTED_LINKED_OPERATION);
+    }
+    if let Some((code, asked)) = asked {
+        let (result, kept) = probe::answer(state, (id, code), asked, output);
+        return Ok(Received::Answered { result, kept });
     }
     if operation.class != 5 {
         if state.peer.is_full() {
@@ -109,7 +122,19 @@ fn receive_invoke<'a>(table: &Table, state: &mut State, invoke: Invoke<'a>) -> R
         }
         state.peer.add(id, operation.code);
     }
-    Ok(Indication::Invoke { id, linked, code: operation.code, value })
+    state.kept.drop_id(id);
+    Ok(Received::Indicated(Indication::Invoke { id, linked, code: operation.code, value }))
+}
+
+/// The code of a probe or acknowledge and the id that it asks about; none of any other operation.
+fn asked_about(operation: &Operation, value: Option<&[u8]>) -> Result<Option<(i32, i32)>, Problem> {
+    match operation.code {
+        Code::Local(code) if probe::is_answered_here(&operation.code) => {
+            let asked = value.and_then(|value| probe::asked_id(code, value));
+            Ok(Some((code, asked.ok_or(Problem::MISTYPED_ARGUMENT)?)))
+        }
+        _ => Ok(None),
+    }
 }
 
 fn receive_result<'a>(
@@ -195,7 +220,8 @@ pub fn request_invoke(
         return Err(Refusal::IdResting);
     }
     let class = |code| table.operation(code).map(|operation| operation.class);
-    if state.own.live().iter().any(|record| class(&record.code) == Some(1)) {
+    let spared = probe::is_answered_here(&operation.code);
+    if !spared && state.own.live().iter().any(|record| class(&record.code) == Some(1)) {
         return Err(Refusal::SynchronousInvocationLive);
     }
     if let Some(linked) = linked {
@@ -222,7 +248,9 @@ pub fn request_result(table: &[u8], state: &mut State, id: i32, value: &[u8], ou
     let refusals = [Refusal::NoSuchRecord, Refusal::ClassForbids];
     let (at, operation) = answered(&table, &state.peer, id, Operation::has_results, refusals)?;
     let levels = value_levels(value, operation.result)?;
-    answer(state, at, Outgoing::Result { id, code: operation.code.asked(), value }, levels, output)
+    let written = answer(state, at, Outgoing::Result { id, code: operation.code.asked(), value }, levels, output)?;
+    keep(state, id, &operation, &output[..written]);
+    Ok(written)
 }
 
 /// Answers a peer's invocation with an error.
@@ -239,7 +267,9 @@ pub fn request_error(
     let error = code.code().and_then(|code| table.error(&code));
     let error = error.filter(|error| table.lists_error(&operation, error)).ok_or(Refusal::UnlistedError)?;
     let levels = value_levels(value, error.parameter)?;
-    answer(state, at, Outgoing::Error { id, code, value }, levels, output)
+    let written = answer(state, at, Outgoing::Error { id, code, value }, levels, output)?;
+    keep(state, id, &operation, &output[..written]);
+    Ok(written)
 }
 
 /// Rejects a peer's invocation with invoke problem 2, 3 or 4.
@@ -300,6 +330,14 @@ fn answer(state: &mut State, at: usize, apdu: Outgoing<'_>, levels: usize, outpu
     let written = write(apdu, levels, output)?;
     state.peer.retire(at);
     Ok(written)
+}
+
+/// Keeps an answer, unless its operation is idempotent or one that receive answers.
+#[inline]
+fn keep(state: &mut State, id: i32, operation: &Operation, apdu: &[u8]) {
+    if !operation.idempotent && !probe::is_answered_here(&operation.code) {
+        state.kept.add(id, apdu);
+    }
 }
 
 /// Writes an APDU whose value has so many levels; 15, then 2.

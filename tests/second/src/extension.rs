@@ -172,7 +172,7 @@ fn change(meant: usize, old: &Model, new: &mut Model, random: &mut Random) -> Op
 }
 
 /// An operation is dropped with its pairs, and indexes behind it move.
-fn drop_operation(model: &mut Model, at: u16) {
+pub(crate) fn drop_operation(model: &mut Model, at: u16) {
     model.operations.remove(usize::from(at));
     model.error_pairs.retain(|pair| pair.0 != at);
     model.child_pairs.retain(|pair| pair.0 != at && pair.1 != at);

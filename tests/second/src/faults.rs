@@ -1,10 +1,13 @@
 //! Tables that break one rule each and states that are not sound, by name; those about names are in `name_faults`,
-//! those about resting ids in `resting_states`.
+//! those about resting ids in `resting_states`, those about probe and acknowledge in `probe_rows`, and those about kept
+//! answers in `kept_states`.
 //! Follows document 01, "Operation table" and "Records".
 
 use crate::code::Code;
+use crate::kept_states;
 use crate::model::{ErrorRow, Model, OperationRow};
 use crate::name_faults;
+use crate::probe_rows;
 use crate::random::Random;
 use crate::resting_states;
 use crate::state::{Record, Side, State};
@@ -13,7 +16,8 @@ use crate::table::Table;
 /// A table of all classes with pairs of both sorts, for a fault to break.
 pub fn rich(random: &mut Random) -> Model {
     let mut model = Model::default();
-    let mut code = random.number() >> 1;
+    // No code of an operation is then that of a probe or acknowledge.
+    let mut code = random.number_unless(|number| (-120..0).contains(&number)) >> 1;
     for class in [1, 2, 3, 4, 5, 2] {
         let mut row =
             OperationRow { code: Code::Local(code), class, argument: 0x02, result: 0x04, flags: random.octet() & 3 };
@@ -46,7 +50,8 @@ pub fn table(fault: usize, random: &mut Random) -> (&'static str, Vec<u8>, Model
         let model = name_faults::rich(random);
         return (name, make(model.clone(), random), model);
     }
-    let (name, make) = TABLES[fault - name_faults::TABLES.len()];
+    let (name, make) =
+        *TABLES.iter().chain(probe_rows::TABLES).nth(fault - name_faults::TABLES.len()).expect("a fault");
     // What is wrong in edition 1 may be right in edition 2.
     let named = name_faults::rich(random);
     let octets = make(named.clone(), random);
@@ -59,12 +64,13 @@ pub fn table(fault: usize, random: &mut Random) -> (&'static str, Vec<u8>, Model
 
 /// The names of the invalid tables.
 pub fn table_names() -> Vec<&'static str> {
-    name_faults::TABLES.iter().chain(TABLES).map(|(name, _)| *name).collect()
+    name_faults::TABLES.iter().chain(TABLES).chain(probe_rows::TABLES).map(|(name, _)| *name).collect()
 }
 
 /// The ways to make a state unsound.
 pub fn states() -> Vec<(&'static str, StateFault)> {
-    STATES.iter().chain(name_faults::STATES).chain(resting_states::UNSOUND).copied().collect()
+    let states = STATES.iter().chain(name_faults::STATES).chain(resting_states::UNSOUND);
+    states.chain(kept_states::UNSOUND).copied().collect()
 }
 
 /// Each gives a table that is not valid.

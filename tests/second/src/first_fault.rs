@@ -8,7 +8,7 @@ const MOST: [usize; 5] = [64, 64, 256, 256, 128];
 pub const LONGEST_FILE: usize = 5144;
 
 /// Every rule by name, in the order of the faults as far as there is one.
-pub const RULES: [&str; 40] = [
+pub const RULES: [&str; 45] = [
     "file length",
     "edition",
     "header length",
@@ -28,6 +28,11 @@ pub const RULES: [&str; 40] = [
     "result of class",
     "operation name index",
     "operation order",
+    "probe class",
+    "probe argument",
+    "probe result",
+    "probe optional",
+    "probe without acknowledge",
     "error count",
     "error flags",
     "parameter optional",
@@ -65,6 +70,8 @@ pub struct Fault {
     pub rule: String,
     pub place: Place,
     pub says: String,
+    /// Whether a rule of probe or acknowledge is broken: how that is told, and before which other fault, is open.
+    pub open: bool,
 }
 
 impl Fault {
@@ -99,6 +106,11 @@ fn check(octets: &[u8]) -> Result<(), Fault> {
     require(length >= header, "header length", Place::Header, || format!("{length} octets, expected {header}"))?;
     let parts = split(octets, (mark, parts))?;
     let flags = if second { [0x0F, 0x03] } else { [0x03, 0x01] };
+    entries(&parts, flags).map_err(|fault| Fault { open: breaks_a_probe_rule(&parts), ..fault })
+}
+
+/// Part by part, the counts and the entries.
+fn entries(parts: &Parts<'_>, flags: [u8; 2]) -> Result<(), Fault> {
     for (part, entries) in parts.iter().enumerate() {
         let (name, count, most) = (PARTS[part], entries.len(), MOST[part]);
         require(count <= most, &format!("{name} count"), Place::Header, || {
@@ -106,10 +118,10 @@ fn check(octets: &[u8]) -> Result<(), Fault> {
         })?;
         for index in 0..count {
             match part {
-                0 => operation(&parts, index, flags[0])?,
-                1 => error(&parts, index, flags[1])?,
+                0 => operation(parts, index, flags[0])?,
+                1 => error(parts, index, flags[1])?,
                 4 => self::name(entries, index)?,
-                _ => pair(&parts, part, index)?,
+                _ => pair(parts, part, index)?,
             }
         }
     }
@@ -150,7 +162,34 @@ fn operation(parts: &Parts<'_>, index: usize, allowed: u8) -> Result<(), Fault> 
         format!("result type is {result:02x}, expected 00 for class {class}")
     })?;
     name_index(parts, 0, index)?;
-    rising(parts, 0, index)
+    rising(parts, 0, index)?;
+    probe(parts, index)
+}
+
+/// The local code of an operation, if it is that of a probe or acknowledge.
+fn probe_code(parts: &Parts<'_>, index: usize) -> Option<i32> {
+    match code(parts, 0, index) {
+        (false, number) => Some(number as i32).filter(|code| matches!(code, -3 | -2)),
+        (true, _) => None,
+    }
+}
+
+/// The rules of a probe and an acknowledge.
+fn probe(parts: &Parts<'_>, index: usize) -> Result<(), Fault> {
+    let Some(code) = probe_code(parts, index) else { return Ok(()) };
+    let (place, type_of) = (Place::Entry(0, index), if code == -2 { 0x30 } else { 0x02 });
+    let [class, argument, result, flags] = [4, 5, 6, 7].map(|at| parts[0][index][at]);
+    let other = |what: &str, is: u8| format!("{what} is {is:02x}, another than that of code {code}");
+    require(class == 1 || class == 2, "probe class", place, || other("class", class))?;
+    require(argument == type_of, "probe argument", place, || other("argument type", argument))?;
+    require(result == 0x0A, "probe result", place, || other("result type", result))?;
+    require(flags & 3 == 0, "probe optional", place, || format!("code {code} is optional"))?;
+    let acknowledged = code == -3 || (0..parts[0].len()).any(|other| probe_code(parts, other) == Some(-3));
+    require(acknowledged, "probe without acknowledge", place, || "code -2 stands without code -3".to_string())
+}
+
+fn breaks_a_probe_rule(parts: &Parts<'_>) -> bool {
+    (0..parts[0].len()).any(|index| probe(parts, index).is_err())
 }
 
 fn error(parts: &Parts<'_>, index: usize, allowed: u8) -> Result<(), Fault> {
@@ -243,7 +282,7 @@ fn require(holds: bool, rule: &str, place: Place, says: impl FnOnce() -> String)
     if holds {
         return Ok(());
     }
-    Err(Fault { rule: rule.to_string(), place, says: says() })
+    Err(Fault { rule: rule.to_string(), place, says: says(), open: false })
 }
 
 fn half(octets: &[u8], at: usize) -> usize {

@@ -32,7 +32,7 @@ impl Generator<'_> {
         let state = self.random_state();
         self.set_state(&state);
         self.with_flawed_values(|this| {
-            for _ in 0..this.random.between(3, 6) {
+            for _ in 0..this.random.between(4, 8) {
                 this.trouble = [10, 20, 40][this.random.below(3)];
                 this.request();
             }
@@ -110,7 +110,8 @@ impl Generator<'_> {
     }
 
     fn receive_flawed(&mut self, octets: &[u8]) {
-        let lent = if self.random.percent(4) { 10 } else { self.random.between(11, 16) as u16 };
+        let (room, short) = (self.room(), self.random.percent(4));
+        let lent = if short { room - 1 } else { room + self.random.below(6) } as u16;
         self.call(Frame { kind: frame::RECEIVE, lent, payload: octets, ..Frame::default() });
     }
 }

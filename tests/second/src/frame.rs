@@ -1,6 +1,7 @@
-//! Frames of a script and the state images: the input of the drive protocol, with those of its stages 5 and 6.
+//! Frames of a script and the state images: the input of the drive protocol, with those of its stages 5 to 7.
 
 use crate::code::{Asked, Code, NAME_OCTETS};
+use crate::kept::{self, Kept};
 use crate::resting::Resting;
 use crate::state::{Record, Side, State};
 
@@ -125,21 +126,27 @@ impl<'a> Frame<'a> {
 const LOCAL_PLACE: usize = 8;
 const PLACE: usize = 5 + NAME_OCTETS;
 
-/// How many octets the image of a state without names and resting ids may have, of one without resting ids, and of any.
+/// How many octets a kept answer takes: id, length and the most it can have.
+const KEPT_PLACE: usize = 6 + kept::OCTETS;
+
+/// How many octets the image of a state without names, resting ids and kept answers may have, of one without resting
+/// ids and kept answers, of one without kept answers, and of any.
 pub const LOCAL_IMAGE_OCTETS: usize = 2 * (2 + LOCAL_PLACE * State::RECORDS);
 pub const NAMED_IMAGE_OCTETS: usize = 2 * (2 + PLACE * State::RECORDS);
-pub const IMAGE_OCTETS: usize = NAMED_IMAGE_OCTETS + 2 + 4 * State::RESTING;
+pub const RESTING_IMAGE_OCTETS: usize = NAMED_IMAGE_OCTETS + 2 + 4 * State::RESTING;
+pub const IMAGE_OCTETS: usize = RESTING_IMAGE_OCTETS + 2 + KEPT_PLACE * State::KEPT;
 
 /// The state of an image, sound or not, unless its length is another.
 pub fn read_image(image: &[u8]) -> Option<State> {
     let (place, read): (usize, fn(&[u8]) -> Code) = match image.len() {
         LOCAL_IMAGE_OCTETS => (LOCAL_PLACE, |code| Code::Local(number(code))),
-        NAMED_IMAGE_OCTETS | IMAGE_OCTETS => (PLACE, read_code),
+        NAMED_IMAGE_OCTETS | RESTING_IMAGE_OCTETS | IMAGE_OCTETS => (PLACE, read_code),
         _ => return None,
     };
     let side = 2 + place * State::RECORDS;
     let [own, peer] = [&image[..side], &image[side..2 * side]].map(|octets| read_side(octets, place, read));
-    Some(State { own, peer, resting: read_resting(&image[2 * side..]) })
+    let resting = read_resting(&image[2 * side..]);
+    Some(State { own, peer, resting, kept: read_kept(image.get(RESTING_IMAGE_OCTETS..).unwrap_or_default()) })
 }
 
 fn read_side(octets: &[u8], size: usize, code: fn(&[u8]) -> Code) -> Side {
@@ -161,6 +168,20 @@ fn read_resting(octets: &[u8]) -> Resting {
     resting
 }
 
+/// No answers where there are no octets.
+fn read_kept(octets: &[u8]) -> Kept {
+    let mut kept = Kept::none();
+    if let [high, low, places @ ..] = octets {
+        kept.count = u16::from_be_bytes([*high, *low]);
+        for (at, place) in places.chunks_exact(KEPT_PLACE).enumerate() {
+            kept.ids[at] = number(place);
+            kept.lengths[at] = u16::from_be_bytes([place[4], place[5]]);
+            kept.store[at].copy_from_slice(&place[6..]);
+        }
+    }
+    kept
+}
+
 /// A name with its length, or with length 0 a local code.
 fn read_code(octets: &[u8]) -> Code {
     match octets {
@@ -171,15 +192,36 @@ fn read_code(octets: &[u8]) -> Code {
 
 /// The image of any state.
 pub fn image(state: &State) -> Vec<u8> {
+    let Kept { count, ids, lengths, store } = &state.kept;
+    let mut image = records_and_resting(state);
+    image.extend(count.to_be_bytes());
+    for ((id, length), octets) in ids.iter().zip(lengths).zip(store) {
+        image.extend(id.to_be_bytes());
+        image.extend(length.to_be_bytes());
+        image.extend(octets);
+    }
+    image
+}
+
+/// The image of a state without kept answers; none if a place has one.
+pub fn resting_image(state: &State) -> Option<Vec<u8>> {
+    (state.kept == Kept::none()).then(|| records_and_resting(state))
+}
+
+/// The image of a state without resting ids and kept answers; none if a place has one.
+pub fn named_image(state: &State) -> Option<Vec<u8>> {
+    holds_records_only(state).then(|| records_image(state))
+}
+
+fn holds_records_only(state: &State) -> bool {
+    state.resting == Resting::none() && state.kept == Kept::none()
+}
+
+fn records_and_resting(state: &State) -> Vec<u8> {
     let mut image = records_image(state);
     image.extend(state.resting.count.to_be_bytes());
     state.resting.places.iter().for_each(|id| image.extend(id.to_be_bytes()));
     image
-}
-
-/// The image of a state without resting ids; none if a place has one.
-pub fn named_image(state: &State) -> Option<Vec<u8>> {
-    (state.resting == Resting::none()).then(|| records_image(state))
 }
 
 /// The records of an image that can hold names.
@@ -198,9 +240,9 @@ fn records_image(state: &State) -> Vec<u8> {
     image
 }
 
-/// The image of a state without names and resting ids in any place; none if there is one.
+/// The image of a state without names, resting ids and kept answers in any place; none if there is one.
 pub fn local_image(state: &State) -> Option<Vec<u8>> {
-    if state.resting != Resting::none() {
+    if !holds_records_only(state) {
         return None;
     }
     let mut image = Vec::with_capacity(LOCAL_IMAGE_OCTETS);

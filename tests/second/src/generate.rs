@@ -1,17 +1,21 @@
 //! Scripts from a seed: episodes of calls that fit the state reached, with faults, limits and damage among them.
-//! The calls themselves are made in `requests`, `arrivals`, `lookups`, `named_calls`, `resting_calls`, `limits`,
-//! `oddities` and `flawed_calls`.
+//! The calls themselves are made in `requests`, `arrivals`, `lookups`, `named_calls`, `resting_calls`, `probe_calls`,
+//! `kept_calls`, `limits`, `oddities` and `flawed_calls`.
 
 use crate::answer::Answer;
 use crate::code::Code;
 use crate::days::{self, Logged};
 use crate::drive::{Drive, Step};
+use crate::engine::REJECT_OCTETS;
 use crate::flawed::Flaw;
 use crate::frame::{self, Frame};
+use crate::kept_states;
 use crate::model::Model;
+use crate::oddities::DECKS;
 use crate::random::Random;
 use crate::resting_states;
 use crate::state::{Record, Side, State};
+use crate::table::Table;
 
 /// A call as it was made, for coverage.
 pub struct Seen<'a> {
@@ -50,6 +54,11 @@ pub enum Group {
     Forgotten,
     AskedAgain,
     StillResting,
+    RightInside,
+    WrongInside,
+    KeptInARow,
+    Fetched,
+    NotFetched,
 }
 
 type Watch<'w> = dyn FnMut(&Seen<'_>) + 'w;
@@ -71,7 +80,7 @@ pub struct Generator<'w> {
     left: usize,
     follows: bool,
     /// Where each list of named cases is gone on with.
-    pub(crate) turns: [usize; 3],
+    pub(crate) turns: [usize; DECKS],
     /// How far the kinds of fault are gone through.
     pub(crate) flaws: usize,
     watch: Option<&'w mut Watch<'w>>,
@@ -93,7 +102,7 @@ impl<'w> Generator<'w> {
     fn new(seed: u64, calls: usize, watch: Option<&'w mut Watch<'w>>) -> Self {
         let mut random = Random::new(seed);
         Generator {
-            turns: [0; 3].map(|_| random.below(1000)),
+            turns: [0; DECKS].map(|_| random.below(1000)),
             random,
             drive: Drive::default(),
             model: Model::default(),
@@ -121,19 +130,21 @@ impl<'w> Generator<'w> {
 
     fn run(mut self) -> Vec<u8> {
         while self.left > 0 {
-            match self.random.below(238) {
-                0..=13 => self.invalid_table(),
-                14..=19 => self.unsound_state(),
-                20..=23 => self.lacking_table(),
-                24..=65 => self.limit(),
-                66..=112 => self.named_arrival(),
-                113..=140 => self.named_value(),
-                141..=149 => self.lookups(),
-                150..=156 => self.named_calls(),
-                157..=170 => self.resting_calls(),
-                171..=178 => self.episode(),
-                179..=232 => self.flawed_call(),
-                _ => self.flawed_requests(),
+            match self.random.below(298) {
+                0..=20 => self.invalid_table(),
+                21..=26 => self.unsound_state(),
+                27..=30 => self.lacking_table(),
+                31..=72 => self.limit(),
+                73..=130 => self.named_arrival(),
+                131..=164 => self.named_value(),
+                165..=174 => self.lookups(),
+                175..=182 => self.named_calls(),
+                183..=198 => self.resting_calls(),
+                199..=203 => self.episode(),
+                204..=262 => self.flawed_call(),
+                263..=268 => self.flawed_requests(),
+                269..=286 => self.probe_calls(),
+                _ => self.kept_calls(),
             }
         }
         self.end();
@@ -175,12 +186,18 @@ impl<'w> Generator<'w> {
     }
 
     pub(crate) fn set_state(&mut self, state: &State) {
-        let shorter = match self.random.below(3) {
-            0 => frame::local_image(state),
-            1 => frame::named_image(state),
+        let shorter = match self.random.below(5) {
+            0..=1 => frame::local_image(state),
+            2 => frame::named_image(state),
+            3 => frame::resting_image(state),
             _ => None,
         };
         self.set(frame::STATE, &shorter.unwrap_or_else(|| frame::image(state)));
+    }
+
+    /// How many octets receive needs with the table in force.
+    pub(crate) fn room(&self) -> usize {
+        Table::new(&self.drive.table).map_or(REJECT_OCTETS, |table| table.listed.room(REJECT_OCTETS))
     }
 
     /// Whether to do the next thing wrong.
@@ -208,7 +225,7 @@ impl<'w> Generator<'w> {
             }
             1 => self.set_state(&State::fresh()),
             2 => {
-                let length = [0, 258, 515, 517, 674, 1347, 1349, 1605, 1607][self.random.below(9)];
+                let length = [0, 258, 515, 517, 674, 1347, 1349, 1605, 1607, 5751, 5753][self.random.below(11)];
                 self.set(frame::STATE, &vec![0xFF; length]);
             }
             _ => {
@@ -251,6 +268,10 @@ impl<'w> Generator<'w> {
         if self.random.percent(40) {
             let count = [1, 2, 5, 62, 63, 64][self.random.below(6)];
             resting_states::rest(&mut self.random, &mut state, count);
+        }
+        if self.random.percent(30) {
+            let count = [1, 2, 7, 8][self.random.below(4)];
+            kept_states::keep(&mut self.random, &mut state, count);
         }
         state
     }

@@ -1,4 +1,4 @@
-//! Remote operations of X.219, X.229 and X.880 as fixed in document 01 and, up to request Six, document 02: the engine
+//! Remote operations of X.219, X.229 and X.880 as fixed in document 01 and, up to request Seven, document 02: the engine
 //! of one end of an association (`engine`), a script player (`drive`), a script generator (`generate`) and checks that
 //! run on them.
 
@@ -11,8 +11,10 @@ pub mod engine;
 pub mod fault;
 pub mod fields;
 pub mod frame;
+pub mod kept;
 pub mod line;
 pub mod octets;
+pub mod probe;
 pub mod replay;
 pub mod resting;
 pub mod state;
@@ -25,6 +27,7 @@ pub mod broken;
 pub mod captures;
 pub mod cases;
 pub mod changed;
+mod channel;
 pub mod codes;
 pub mod compare;
 mod counted;
@@ -42,6 +45,11 @@ pub mod flaws;
 pub mod forms;
 pub mod generate;
 pub mod indefinite;
+mod insides;
+mod kept_after;
+mod kept_calls;
+mod kept_rows;
+mod kept_states;
 mod limits;
 pub mod listing;
 pub mod looked_up;
@@ -55,6 +63,11 @@ mod observe;
 mod oddities;
 pub mod placed;
 pub mod player;
+mod probe_calls;
+mod probe_days;
+mod probe_rows;
+mod probed;
+mod probed_day;
 mod process;
 mod programs;
 pub mod random;

@@ -50,7 +50,8 @@ impl Generator<'_> {
     /// A table with one operation of class 2, one of class 5 and one error, all values of one type, 0 for none, and optional;
     /// a state with one record of the first on each side. The codes are local, or names.
     fn set_plain(&mut self, kind: u8) -> Plain {
-        let number = self.random.number() >> 1;
+        // Neither code is then that of a probe or acknowledge.
+        let number = self.random.number_unless(|number| (-8..0).contains(&number)) >> 1;
         let names = self.random.percent(45).then(|| names::different(&mut self.random, 3));
         let [code, silent, error] = match &names {
             Some(names) => [names[0], names[1], names[self.random.below(3)]].map(Code::Name),

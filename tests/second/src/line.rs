@@ -1,8 +1,9 @@
 //! The line of a call, written and read.
-//! Follows the drive protocol, "Line", with the fields of its stages 4 and 6 and the names of its stage 5.
+//! Follows the drive protocol, "Line", with the fields of its stages 4, 6 and 7 and the names of its stage 5.
 
 use crate::answer::{Answer, Indication, Problem, Refusal};
 use crate::code::Code;
+use crate::kept::Kept;
 use crate::resting::Resting;
 use crate::state::{Record, Side, State};
 
@@ -54,6 +55,8 @@ impl<'a> Line<'a> {
         put(line, &format!(" place {}", self.place));
         put(line, " rest ");
         put_resting(line, &self.state.resting);
+        put(line, " kept ");
+        put_kept(line, &self.state.kept);
     }
 
     /// Takes a line apart; none unless it is exactly what the protocol writes.
@@ -62,12 +65,15 @@ impl<'a> Line<'a> {
         let (own, rest) = rest.split_once(" peer ")?;
         let (peer, rest) = rest.split_once(" out ")?;
         let (out, rest) = rest.split_once(" place ")?;
-        let (place, resting) = rest.split_once(" rest ")?;
+        let (place, rest) = rest.split_once(" rest ")?;
+        let (resting, kept) = rest.split_once(" kept ")?;
         let place = place.parse().ok()?;
         let spoiled = out.ends_with(" spoiled");
         let out = out.strip_suffix(" spoiled").unwrap_or(out);
         room.written = if out == "-" { Vec::new() } else { read_octets(out)? };
-        room.state = State { own: read_side(own)?, peer: read_side(peer)?, resting: read_resting(resting)? };
+        (room.state.own, room.state.peer) = (read_side(own)?, read_side(peer)?);
+        room.state.resting = read_resting(resting)?;
+        read_kept(kept, &mut room.state.kept)?;
         let answer = read_answer(answer, (room.written.len(), place), &mut room.value)?;
         let read = Line { answer, state: &room.state, written: &room.written, spoiled, place };
         let mut again = Vec::with_capacity(line.len());
@@ -79,6 +85,7 @@ impl<'a> Line<'a> {
 fn put_answer(line: &mut Vec<u8>, answer: &Answer<'_>) {
     match *answer {
         Answer::Indicated(indication) => put_indication(line, indication),
+        Answer::Answered { .. } => put(line, "answered"),
         Answer::Sent { .. } => put(line, "sent"),
         Answer::Forgotten => put(line, "forgotten"),
         Answer::Refused(refusal) => {
@@ -201,6 +208,18 @@ fn put_resting(line: &mut Vec<u8>, resting: &Resting) {
     resting.shown().iter().for_each(|id| put_number(line, Some(*id)));
 }
 
+fn put_kept(line: &mut Vec<u8>, kept: &Kept) {
+    put_hex(line, &kept.count.to_be_bytes());
+    for at in 0..kept.shown() {
+        put_number(line, Some(kept.ids[at]));
+        put(line, ":");
+        put_hex(line, &kept.lengths[at].to_be_bytes());
+        put(line, ":");
+        let octets = kept.shown_octets(at);
+        put_octets(line, (!octets.is_empty()).then_some(octets), "-");
+    }
+}
+
 fn put_hex(line: &mut Vec<u8>, octets: &[u8]) {
     const DIGITS: &[u8; 16] = b"0123456789abcdef";
     line.extend(octets.iter().flat_map(|octet| [octet >> 4, octet & 15].map(|digit| DIGITS[usize::from(digit)])));
@@ -210,6 +229,7 @@ fn put_hex(line: &mut Vec<u8>, octets: &[u8]) {
 fn read_answer<'a>(text: &str, (written, place): (usize, usize), room: &'a mut Vec<u8>) -> Option<Answer<'a>> {
     let words: Vec<&str> = text.split(' ').collect();
     Some(match words[..] {
+        ["answered"] => Answer::Answered { written },
         ["sent"] => Answer::Sent { written },
         ["forgotten"] => Answer::Forgotten,
         ["refused", number] => Answer::Refused(Refusal::plain(number.parse().ok()?, place)?),
@@ -312,4 +332,20 @@ fn read_resting(text: &str) -> Option<Resting> {
         *resting.places.get_mut(at)? = read_number(word)?;
     }
     Some(resting)
+}
+
+/// The count, then the answers that are shown, at most all.
+fn read_kept(text: &str, kept: &mut Kept) -> Option<()> {
+    *kept = Kept::none();
+    let mut words = text.split(' ');
+    kept.count = u16::from_str_radix(words.next()?, 16).ok()?;
+    for (at, word) in words.enumerate() {
+        let (id, rest) = word.split_once(':')?;
+        let (length, octets) = rest.split_once(':')?;
+        *kept.ids.get_mut(at)? = read_number(id)?;
+        kept.lengths[at] = u16::from_str_radix(length, 16).ok()?;
+        let octets = if octets == "-" { Vec::new() } else { read_octets(octets)? };
+        kept.store[at].get_mut(..octets.len())?.copy_from_slice(&octets);
+    }
+    Some(())
 }

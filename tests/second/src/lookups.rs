@@ -19,7 +19,7 @@ impl Generator<'_> {
         self.set_model(model);
         let start = self.answerable_state();
         self.set_state(&start);
-        for _ in 0..self.random.between(10, 18) {
+        for _ in 0..self.random.between(11, 19) {
             let state = &self.drive.state;
             let blocked = state.own.live().iter().any(|record| self.model.class(record.code) == Some(1));
             if blocked || state.own.count < 2 || state.peer.count < 2 {
@@ -88,6 +88,6 @@ impl Generator<'_> {
         let code = Wanted::from(code).element(&mut self.random);
         let fields = vec![self.number(0x02, |_| id), code, value];
         let payload = self.apdu(kind, fields);
-        self.call(Frame { kind: frame::RECEIVE, lent: 11, payload: &payload, ..Frame::default() });
+        self.arrive(&payload);
     }
 }

@@ -34,8 +34,8 @@ second replays PROGRAM SEED COUNT
                              fails at the first line that differs or if a row was never met
 second samples FOLDER        write samples of captures, their tables and their lines
 
-Each line ends with the place of the first fault in the given octets and the ids that rest; with places that of the
-indicated value in the received octets follows. PROGRAM is then started with the argument places, else without arguments.
+Each line ends with the place of the first fault in the given octets, the ids that rest and the answers that are kept;
+with places that of the indicated value in the received octets follows. PROGRAM is then started with the argument places, else without arguments.
 ";
 
 fn main() -> ExitCode {

@@ -6,6 +6,8 @@ use std::collections::BTreeSet;
 use crate::code::{Code, Name};
 use crate::codes;
 use crate::names;
+use crate::probe::{ACKNOWLEDGE, PROBE};
+use crate::probe_rows;
 use crate::random::Random;
 use crate::table::{Rule, Table};
 
@@ -54,7 +56,7 @@ pub struct Model {
 }
 
 /// The flags for an idempotent operation, an operation with a name and an error with a name.
-const IDEMPOTENT: u8 = 8;
+pub(crate) const IDEMPOTENT: u8 = 8;
 const OPERATION_NAMED: u8 = 4;
 const ERROR_NAMED: u8 = 2;
 
@@ -264,10 +266,11 @@ impl Model {
 
     /// Operations and errors with random rules, and no pairs.
     fn lists(random: &mut Random, lengths: [usize; 2], codes: fn(&mut Random, usize) -> Vec<i32>) -> Model {
-        let mut codes = |length| codes(random, length).into_iter().map(Code::Local).collect();
-        let (operations, errors): (Vec<Code>, Vec<Code>) = (codes(lengths[0]), codes(lengths[1]));
-        let operations = operations.into_iter().map(|code| random_operation(random, code)).collect();
-        let errors = errors.into_iter().map(|code| random_error(random, code)).collect();
+        let (operations, errors) = (codes(random, lengths[0]), codes(random, lengths[1]));
+        let operations = probe_rows::codes(random, operations).into_iter().map(Code::Local);
+        let operations = operations.map(|code| random_operation(random, code)).collect();
+        let errors = errors.into_iter().map(Code::Local);
+        let errors = errors.map(|code| random_error(random, code)).collect();
         Model { operations, errors, ..Model::default() }
     }
 
@@ -285,6 +288,7 @@ impl Model {
                 model.errors.push(random_error(random, code));
             }
         }
+        model.complete(random);
         model.sort();
         let moved = |old: u16| place(&model.operations, self.operations[usize::from(old)].code, |row| row.code);
         let moved_error = |old: u16| place(&model.errors, self.errors[usize::from(old)].code, |row| row.code);
@@ -296,6 +300,14 @@ impl Model {
         model.child_pairs = model.allowed_child_pairs();
         model.child_pairs.retain(|pair| kept_children.contains(pair) || random.percent(more_children));
         model
+    }
+
+    /// Adds acknowledge where a probe stands without it.
+    fn complete(&mut self, random: &mut Random) {
+        let has = |code: i32| self.operation(Code::Local(code)).is_some();
+        if has(PROBE) && !has(ACKNOWLEDGE) {
+            self.operations.push(random_operation(random, Code::Local(ACKNOWLEDGE)));
+        }
     }
 
     /// Gives it any edition that its codes allow; one of edition 2 gets its names in another order, some that nothing
@@ -354,8 +366,9 @@ impl Model {
         pairs(&self.operations, |class| class < 5, self.operations.len())
     }
 
-    /// Makes a row's result and flags fit its class and types.
+    /// Makes a row's result and flags fit its class and types, and a row of probe or acknowledge right.
     pub fn settle(row: &mut OperationRow) {
+        probe_rows::settle(row);
         if matches!(row.class, 3 | 5) {
             row.result = 0;
         }

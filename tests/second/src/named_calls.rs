@@ -43,7 +43,7 @@ const SORTS: [Sort; 24] = [
     Sort::Listed,
     Sort::Listed,
     Sort::Listed,
-    Sort::Listed,
+    Sort::LongStart,
     Sort::OfTheTable,
     Sort::OfTheOtherList,
     Sort::Close,
@@ -86,7 +86,7 @@ impl Generator<'_> {
 
     fn ask_operation(&mut self, operations: &[Code], errors: &[Code]) {
         let code = self.sorted_code(operations, errors);
-        let value = self.value(self.argument(&code));
+        let value = self.value(self.argument_of(&code));
         let id = free_id(&mut self.random, &self.drive.state, true);
         let frame = Frame { kind: frame::INVOKE, lent: LENT, id, ..Frame::default() };
         self.call(frame.asking(code.asked(), &value, &mut Vec::new()));
@@ -102,7 +102,7 @@ impl Generator<'_> {
 
     fn hear_operation(&mut self, operations: &[Code], errors: &[Code]) {
         let code = self.heard_code(operations, errors);
-        let (id, value) = (free_id(&mut self.random, &self.drive.state, false), self.value(self.argument(&code)));
+        let (id, value) = (free_id(&mut self.random, &self.drive.state, false), self.value(self.argument_of(&code)));
         let fields = [element(0x02, &integer_contents(id)), code.element(&mut self.random), value];
         self.hear(0xA1, &fields.concat());
     }
@@ -131,11 +131,10 @@ impl Generator<'_> {
     }
 
     fn hear(&mut self, kind: u8, fields: &[u8]) {
-        let payload = element(kind, fields);
-        self.call(Frame { kind: frame::RECEIVE, lent: 11, payload: &payload, ..Frame::default() });
+        self.arrive(&element(kind, fields));
     }
 
-    fn argument(&self, code: &Wanted) -> Rule {
+    fn argument_of(&self, code: &Wanted) -> Rule {
         let row = code.asked().code().and_then(|code| self.model.operation(code));
         row.map_or(Rule { kind: 0, optional: false }, |(_, row)| row.argument_rule())
     }

@@ -1,7 +1,7 @@
 //! What a generated call shows: its kind, the limits it touches, and whether a named case did what it is there for.
 
 use crate::answer::{Answer, Indication, Problem, Refusal};
-use crate::apdu::Outgoing;
+use crate::apdu::{self, Outgoing};
 use crate::code::Code;
 use crate::frame::{self, Frame};
 use crate::generate::{Group, Seen};
@@ -33,7 +33,18 @@ pub fn expects(group: Group, seen: &Seen<'_>) -> bool {
         Group::SoundState => !matches!(number, 1 | 19),
         Group::Forgotten | Group::AskedAgain => number == 0,
         Group::StillResting => number == 22,
+        Group::RightInside => matches!(seen.answer, Answer::Answered { .. }),
+        Group::WrongInside => problem == Some(Problem::MISTYPED_ARGUMENT),
+        Group::KeptInARow => number == 0,
+        Group::Fetched => probe_found(seen) == Some(1),
+        Group::NotFetched => probe_found(seen) == Some(2),
     }
+}
+
+/// What the result of a probe or acknowledge says that receive wrote.
+pub fn probe_found(seen: &Seen<'_>) -> Option<u8> {
+    let Answer::Answered { .. } = seen.answer else { return None };
+    apdu::split_result(seen.written).0.last().copied()
 }
 
 /// The number of a refusal, 0 if the call was accepted.
@@ -49,6 +60,7 @@ pub fn sort(answer: &Answer<'_>) -> &'static str {
         Answer::Indicated(Indication::Invoke { .. }) => "an invoke",
         Answer::Indicated(Indication::UserReject { .. } | Indication::ProviderReject { .. }) => "a reject",
         Answer::Indicated(_) => "an answer",
+        Answer::Answered { .. } => "an answered probe or acknowledge",
         Answer::Sent { .. } => "a request",
         Answer::Forgotten => "a forget",
         Answer::Refused(Refusal::Rejected { .. }) => "refusal 18",
@@ -65,8 +77,7 @@ pub fn rejected_id_is_live(seen: &Seen<'_>) -> bool {
 
 /// The accepted kinds a call belongs to.
 pub fn accepted_kinds(seen: &Seen<'_>, answer: &Answer<'_>) -> Vec<&'static str> {
-    let (Frame { kind, detail, .. }, payload) = (*seen.frame, seen.frame.value());
-    let either = |test, yes, no| if test { yes } else { no };
+    let detail = seen.frame.detail;
     match *answer {
         Answer::Indicated(Indication::Invoke { linked, code, value, .. }) => {
             let mut kinds = vec![either(value.is_some(), "invoke with value", "invoke without value")];
@@ -87,20 +98,37 @@ pub fn accepted_kinds(seen: &Seen<'_>, answer: &Answer<'_>) -> Vec<&'static str>
             Problem::Error(_) => "reject-u 83",
             _ => either(seen.before.own.find(id).is_some(), "reject-u 81 retiring", "reject-u 81 without record"),
         }],
-        Answer::Sent { .. } if kind == frame::INVOKE => {
+        Answer::Answered { .. } => vec!["answered"],
+        Answer::Sent { .. } => sent_kinds(seen),
+        _ => vec![either(detail == 0, "forgotten own", "forgotten peer")],
+    }
+}
+
+/// The accepted kinds a request belongs to.
+fn sent_kinds(seen: &Seen<'_>) -> Vec<&'static str> {
+    let payload = seen.frame.value();
+    match seen.frame.kind {
+        frame::INVOKE => {
             let mut kinds = vec![either(payload.is_empty(), "sent invoke without value", "sent invoke with value")];
             kinds.extend(seen.frame.linked_id().map(|_| "sent linked invoke"));
             kinds.extend((class(seen, seen.frame.asked().code()) == 5).then_some("sent class 5 invoke"));
             kinds
         }
-        Answer::Sent { .. } if kind == frame::RESULT => {
+        frame::RESULT => {
             vec![either(payload.is_empty(), "sent absent result", "sent result")]
         }
-        Answer::Sent { .. } if kind == frame::ERROR => {
+        frame::ERROR => {
             vec![either(payload.is_empty(), "sent error without value", "sent error with value")]
         }
-        Answer::Sent { .. } => vec!["sent user reject"],
-        _ => vec![either(detail == 0, "forgotten own", "forgotten peer")],
+        _ => vec!["sent user reject"],
+    }
+}
+
+fn either(test: bool, yes: &'static str, no: &'static str) -> &'static str {
+    if test {
+        yes
+    } else {
+        no
     }
 }
 
@@ -150,6 +178,7 @@ pub fn record_limits(seen: &Seen<'_>) -> Vec<&'static str> {
 pub fn answered(answer: &Answer<'_>) -> String {
     match answer {
         Answer::Sent { .. } => "sent".to_string(),
+        Answer::Answered { .. } => "answered".to_string(),
         Answer::Refused(Refusal::Rejected { problem, .. }) => {
             let (kind, number) = problem.octets();
             format!("{kind:02x} {number:02x}")

@@ -45,11 +45,21 @@ pub const VALUES: &[List] = &[
 
 /// Lists that are gone through in turn, so that none of their cases is left out for long.
 #[derive(Clone, Copy)]
-enum Deck {
+pub(crate) enum Deck {
     Tables,
     Arrivals,
     Values,
+    States,
+    RightInsides,
+    WrongInsides,
+    KeptStates,
+    OwnProbes,
+    Fetched,
+    NotFetched,
 }
+
+/// How many such lists there are.
+pub(crate) const DECKS: usize = Deck::NotFetched as usize + 1;
 
 impl Generator<'_> {
     /// An invalid table for a few calls, at times in an unsound state.
@@ -110,7 +120,7 @@ impl Generator<'_> {
     /// A state that is not sound for a few calls.
     pub(crate) fn unsound_state(&mut self) {
         let states = faults::states();
-        let (name, spoil) = states[self.random.below(states.len())];
+        let (name, spoil) = states[self.turn(Deck::States, states.len())];
         let mut state = self.random_state();
         spoil(&mut state, &mut self.random);
         self.set_state(&state);
@@ -131,7 +141,8 @@ impl Generator<'_> {
         }
     }
 
-    fn turn(&mut self, deck: Deck, cases: usize) -> usize {
+    /// The next of so many cases.
+    pub(crate) fn turn(&mut self, deck: Deck, cases: usize) -> usize {
         self.turns[deck as usize] += 1;
         self.turns[deck as usize] % cases
     }
@@ -143,7 +154,7 @@ impl Generator<'_> {
         match group {
             Group::MalformedReceived | Group::WellFormedReceived => self.receive_value(octets),
             _ => {
-                let lent = self.random.between(11, 16) as u16;
+                let lent = (self.room() + self.random.below(6)) as u16;
                 self.call(Frame { kind: frame::RECEIVE, lent, payload: octets, ..Frame::default() });
             }
         }

@@ -4,8 +4,10 @@ use crate::answer::{Answer, Indication, Problem, Refusal, REFUSALS};
 use crate::apdu::{self, Apdu, Invoke};
 use crate::drive::Drive;
 use crate::frame::{self, Frame};
+use crate::kept_after;
 use crate::line::{Line, Room};
 use crate::state::State;
+use crate::table::Table;
 
 /// Who plays an end.
 pub trait Player {
@@ -26,6 +28,7 @@ pub struct Played {
     text: Vec<u8>,
     room: Room,
     before: State,
+    table: Vec<u8>,
 }
 
 impl Played {
@@ -33,7 +36,7 @@ impl Played {
     pub fn new(mut player: Box<dyn Player>, table: &[u8]) -> Result<Self, String> {
         let frame = Frame { kind: frame::TABLE, payload: table, ..Frame::default() };
         player.play(&frame, &mut Vec::new())?;
-        Ok(Played { player, text: Vec::new(), room: Room::default(), before: State::fresh() })
+        Ok(Played { player, text: Vec::new(), room: Room::default(), before: State::fresh(), table: table.to_vec() })
     }
 
     /// The records as the last line showed them.
@@ -54,7 +57,8 @@ impl Played {
         let text = String::from_utf8_lossy(&self.text);
         let line = text.strip_suffix('\n').and_then(|text| Line::read(text, &mut self.room));
         let line = line.ok_or_else(|| format!("no line of the drive protocol: {}", text.trim_end()))?;
-        match broken_rule(frame, &self.before, &line) {
+        let table = Table::new(&self.table).ok_or("the table is not valid")?;
+        match broken_rule(&table, frame, &self.before, &line) {
             Some(rule) => Err(format!("{rule}: {}", text.trim_end())),
             None => Ok((&self.before, line)),
         }
@@ -62,17 +66,22 @@ impl Played {
 }
 
 /// What the line breaks of the papers' rules for every call, whatever the call asks.
-fn broken_rule(frame: &Frame<'_>, before: &State, line: &Line<'_>) -> Option<&'static str> {
+fn broken_rule(table: &Table<'_>, frame: &Frame<'_>, before: &State, line: &Line<'_>) -> Option<&'static str> {
     let rules = [
         (answers(frame.kind, &line.answer), "the call has no such answer"),
         (!refuses_table_or_state(&line.answer), "refused by a table that is valid or a state that is sound"),
         (shows(frame.payload, &line.answer), "the indication does not show the APDU's fields"),
-        (wrote(frame.kind, line), "other octets were written than the answer says"),
+        (wrote(frame, before, line), "other octets were written than the answer says"),
         (line.written.len() <= usize::from(frame.lent), "more octets were written than lent"),
         (!line.spoiled, "an octet behind the written ones was changed"),
         (line.place == 0 || has_place(&line.answer), "the answer has no place"),
         (line.place == 0 || line.place < frame.value().len(), "the place is not in the given octets"),
         (line.state.resting.ids() == rested(frame, before, &line.answer), "other ids rest than the call says"),
+        (kept_after::is_right(table, frame, before, line), "other answers are kept than the call says"),
+        (
+            !is_answered(&line.answer) || same_records(before, line.state),
+            "an answered probe or acknowledge made a record",
+        ),
         (line.answer.is_accepted() || line.state == before, "a refused call changed the records"),
         (line.state.is_sound(), "the records are not sound"),
     ];
@@ -91,11 +100,19 @@ fn rested(frame: &Frame<'_>, before: &State, answer: &Answer<'_>) -> Vec<i32> {
 /// Whether a call of this kind can have the answer.
 fn answers(kind: u8, answer: &Answer<'_>) -> bool {
     match answer {
-        Answer::Indicated(_) => kind == frame::RECEIVE,
+        Answer::Indicated(_) | Answer::Answered { .. } => kind == frame::RECEIVE,
         Answer::Sent { .. } => (frame::INVOKE..=frame::REJECT).contains(&kind),
         Answer::Forgotten => kind == frame::FORGET,
         Answer::Refused(refusal) => REFUSALS[usize::from(kind - frame::RECEIVE)].1.contains(&refusal.number()),
     }
+}
+
+fn is_answered(answer: &Answer<'_>) -> bool {
+    matches!(answer, Answer::Answered { .. })
+}
+
+fn same_records(before: &State, after: &State) -> bool {
+    before.own == after.own && before.peer == after.peer
 }
 
 /// Whether the answer is 1 or 19, which an end with one valid table never gives from the fresh state on.
@@ -132,9 +149,11 @@ fn shown(indication: Indication<'_>) -> Apdu<'_> {
     }
 }
 
-/// Whether a request wrote its APDU, 18 its Reject, and everything else nothing.
-fn wrote(kind: u8, line: &Line<'_>) -> bool {
+/// Whether a request wrote its APDU, 18 its Reject, receive its answer, and everything else nothing.
+fn wrote(frame: &Frame<'_>, before: &State, line: &Line<'_>) -> bool {
+    let kind = frame.kind;
     match (line.answer, apdu::read(line.written)) {
+        (Answer::Answered { .. }, _) => kept_after::written(frame, before).is_some_and(|octets| octets == line.written),
         (Answer::Sent { .. }, Ok(apdu)) => match apdu {
             Apdu::Invoke(_) => kind == frame::INVOKE,
             Apdu::Result { .. } => kind == frame::RESULT,

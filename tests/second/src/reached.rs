@@ -10,14 +10,16 @@ use crate::changed::CHANGES;
 use crate::damaged::DAMAGES;
 use crate::engine::Invocation;
 use crate::octets;
-use crate::replay::{self, Step, Verdict};
+use crate::probe_days;
+use crate::probed_day::{self, Probed};
+use crate::replay::{self, Step, Verdict, Written};
 use crate::rows::Rows;
 use crate::slips::SLIPS;
 use crate::state::State;
 use crate::ways::{self, code_field, DIFFERS, MALFORMED, TABLE_FIRST};
 
 /// How many captures `coverage` draws, and how often each row must occur in them.
-pub const CAPTURES: u64 = 10_000;
+pub const CAPTURES: u64 = 12_500;
 pub const LEAST: u64 = 50;
 
 /// What a capture that agrees can have.
@@ -82,11 +84,12 @@ pub struct Reached {
 impl Default for Reached {
     fn default() -> Self {
         let mut rows = Rows::default();
-        let names = captures::PLAIN.iter().chain(SLIPS.iter().map(|(name, ..)| name));
+        let slips = SLIPS.iter().chain(probe_days::SLIPS);
+        let names = captures::PLAIN.iter().chain(slips.map(|(name, ..)| name));
         let names = names.chain(CHANGES.iter().map(|(name, _)| name)).chain(DAMAGES.iter().map(|(name, ..)| name));
         let names = names.chain(captures::TABLES.iter().map(|(name, _)| name));
         names.for_each(|name| rows.add(format!("capture: {name}")));
-        AGREES.iter().for_each(|row| rows.add(format!("agrees: {row}")));
+        AGREES.iter().chain(&probed_day::AGREES).for_each(|row| rows.add(format!("agrees: {row}")));
         DIFFERS.iter().for_each(|row| rows.add(format!("differs: {row}")));
         TABLE_FIRST.iter().for_each(|row| rows.add(row.to_string()));
         MALFORMED.iter().for_each(|row| rows.add(format!("refused 20: {row}")));
@@ -105,14 +108,15 @@ impl Reached {
     /// Counts what a capture reaches; gives its line.
     pub fn note(&mut self, drawn: &Drawn) -> String {
         let mut things = BTreeSet::new();
-        let (mut ids, mut rejected) = (Ids::default(), false);
+        let (mut ids, mut probed, mut rejected) = (Ids::default(), Probed::default(), false);
         let verdict = replay::watch(&drawn.table, &drawn.capture, |entry, step| {
             things.extend(
                 thing(&step).into_iter().chain(limit(entry)).chain(forms(entry, &step)).chain(names(entry, &step)),
             );
             things.extend(ids.note(entry, &step));
+            things.extend(probed.note(entry, &step));
             things.extend(rejected.then_some("an entry behind a refused APDU's Reject"));
-            rejected |= matches!(step, Step::RejectFound);
+            rejected |= matches!(step, Step::Found(Written::Reject));
         });
         let way = ways::name(&verdict, &drawn.capture);
         self.captures += 1;
@@ -201,9 +205,9 @@ fn thing(step: &Step<'_>) -> Option<&'static str> {
         Step::Indicated(Indication::UserReject { .. }) => "a user's Reject received",
         Step::Indicated(Indication::ProviderReject { .. }) => "a provider's Reject received",
         Step::Rejected(Problem::Invoke(2..=4)) => "a Reject found that a user could have asked for",
-        Step::Rejected(_) => return None,
+        Step::Rejected(_) | Step::Answered | Step::Found(Written::Result | Written::KeptAnswer) => return None,
         Step::PassedOver => "a 17 passed over",
-        Step::RejectFound => "a Reject awaited and found",
+        Step::Found(Written::Reject) => "a Reject awaited and found",
         Step::Sent(Apdu::Invoke(Invoke { linked: Some(_), .. })) => "a linked invoke sent",
         Step::Sent(Apdu::Invoke(_)) => "an invoke sent",
         Step::Sent(Apdu::Result { returned: Some(_), .. }) => "a result sent",

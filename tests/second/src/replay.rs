@@ -1,11 +1,11 @@
 //! Replays a capture on a fresh end: what was received is received again, what was sent is asked for again.
-//! Follows document 02, requests One and Five.
+//! Follows document 02, requests One, Five and Seven.
 
 use std::ffi::OsStr;
 use std::fs::File;
 use std::io::{self, ErrorKind, Read};
 
-use crate::answer::{Indication, Problem, Refusal};
+use crate::answer::{Indication, Problem, Received, Refusal};
 use crate::apdu::{self, Apdu, Invoke};
 use crate::capture::{self, Entry, Kind, Malformed, Reader};
 use crate::engine::{self, Invocation};
@@ -51,10 +51,19 @@ pub enum How {
     NoUserReject(Option<i32>, Problem),
     /// A forget whose side is neither own nor peer.
     OtherSide,
-    /// No entry where a Reject is awaited, one that is not sent, or one with other octets.
-    RejectMissing,
-    RejectNotSent,
-    RejectOther,
+    /// No entry where an APDU is awaited that receive wrote, one that is not sent, or one with other octets.
+    Missing(Written),
+    NotSent(Written),
+    Other(Written),
+}
+
+/// What receive writes.
+#[derive(Clone, Copy, Debug, PartialEq, Eq)]
+pub enum Written {
+    Reject,
+    /// The result of a probe or acknowledge.
+    Result,
+    KeptAnswer,
 }
 
 /// What an entry did that does not differ.
@@ -64,8 +73,10 @@ pub enum Step<'a> {
     Rejected(Problem),
     /// Refusal 17.
     PassedOver,
-    /// The awaited Reject.
-    RejectFound,
+    /// A probe or acknowledge; its result is awaited.
+    Answered,
+    /// The awaited APDU.
+    Found(Written),
     Sent(Apdu<'a>),
     Forgotten(Invocation),
 }
@@ -75,41 +86,55 @@ pub struct End<'t> {
     table: &'t [u8],
     pub state: State,
     output: [u8; State::OCTETS],
-    /// How many octets the awaited Reject has; 0 if none is awaited.
-    awaited: usize,
+    awaited: Option<Awaited>,
+}
+
+/// An APDU that must be the next sent entry: its place in the output, and how many octets of a kept answer stand behind.
+struct Awaited {
+    what: Written,
+    start: usize,
+    end: usize,
+    kept: usize,
 }
 
 impl<'t> End<'t> {
     pub fn fresh(table: &'t [u8]) -> Self {
-        End { table, state: State::fresh(), output: [0; State::OCTETS], awaited: 0 }
+        End { table, state: State::fresh(), output: [0; State::OCTETS], awaited: None }
     }
 
     /// Plays an entry; none may follow one that differs.
     #[inline]
     pub fn play<'a>(&mut self, entry: Entry<'a>) -> Result<Step<'a>, How> {
-        match entry.kind {
-            _ if self.awaited > 0 => self.reject_sent(entry),
-            Kind::Received => self.received(entry.octets),
-            Kind::Sent => self.sent(entry.octets),
-            Kind::Forget => self.forget(entry.octets),
+        match (self.awaited.take(), entry.kind) {
+            (Some(awaited), _) => self.find(awaited, entry),
+            (None, Kind::Received) => self.received(entry.octets),
+            (None, Kind::Sent) => self.sent(entry.octets),
+            (None, Kind::Forget) => self.forget(entry.octets),
         }
     }
 
-    /// Holds an entry against the Reject that was written.
-    fn reject_sent<'a>(&mut self, entry: Entry<'_>) -> Result<Step<'a>, How> {
-        let written = std::mem::take(&mut self.awaited);
+    /// Holds an entry against what receive wrote.
+    fn find<'a>(&mut self, awaited: Awaited, entry: Entry<'_>) -> Result<Step<'a>, How> {
+        let Awaited { what, start, end, kept } = awaited;
+        if kept > 0 {
+            self.awaited = Some(Awaited { what: Written::KeptAnswer, start: end, end: end + kept, kept: 0 });
+        }
         match entry.kind {
-            Kind::Sent if *entry.octets == self.output[..written] => Ok(Step::RejectFound),
-            Kind::Sent => Err(How::RejectOther),
-            _ => Err(How::RejectNotSent),
+            Kind::Sent if *entry.octets == self.output[start..end] => Ok(Step::Found(what)),
+            Kind::Sent => Err(How::Other(what)),
+            _ => Err(How::NotSent(what)),
         }
     }
 
     fn received<'a>(&mut self, octets: &'a [u8]) -> Result<Step<'a>, How> {
         match engine::receive(self.table, &mut self.state, octets, &mut self.output) {
-            Ok(indication) => Ok(Step::Indicated(indication)),
+            Ok(Received::Indicated(indication)) => Ok(Step::Indicated(indication)),
+            Ok(Received::Answered { result, kept }) => {
+                self.awaited = Some(Awaited { what: Written::Result, start: 0, end: result, kept });
+                Ok(Step::Answered)
+            }
             Err(Refusal::Rejected { problem, written, .. }) => {
-                self.awaited = written;
+                self.awaited = Some(Awaited { what: Written::Reject, start: 0, end: written, kept: 0 });
                 Ok(Step::Rejected(problem))
             }
             Err(Refusal::UnacceptableReject { .. }) => Ok(Step::PassedOver),
@@ -184,8 +209,8 @@ pub fn watch<'a>(table: &[u8], capture: &'a [u8], mut seen: impl FnMut(Entry<'a>
         }
     }
     match end.awaited {
-        0 => Verdict::Agrees { entries },
-        _ => Verdict::Differs { place: entries, how: How::RejectMissing },
+        None => Verdict::Agrees { entries },
+        Some(Awaited { what, .. }) => Verdict::Differs { place: entries, how: How::Missing(what) },
     }
 }
 

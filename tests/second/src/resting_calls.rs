@@ -114,8 +114,8 @@ impl Generator<'_> {
         self.arrive(&Outgoing::Reject { id: Some(id), problem }.to_vec());
     }
 
-    fn arrive_invoke(&mut self, id: i32, linked: Option<i32>, row: OperationRow) {
-        let value = self.value(row.argument_rule());
+    pub(crate) fn arrive_invoke(&mut self, id: i32, linked: Option<i32>, row: OperationRow) {
+        let value = self.argument(row);
         self.arrive(&Outgoing::Invoke { id, linked, code: row.code.asked(), value: &value }.to_vec());
     }
 
@@ -195,7 +195,7 @@ impl Generator<'_> {
     fn ask_again(&mut self) {
         let (own, resting) = (self.random.below(4), [0, 1, 5, 63, 64][self.random.below(5)]);
         self.set_resting(own, resting);
-        let State { own, peer, resting } = &self.drive.state;
+        let State { own, peer, resting, .. } = &self.drive.state;
         let taken = |id| own.find(id).is_some() || peer.find(id).is_some() || resting.contains(id);
         let (id, sort) = (self.random.number_unless(taken), self.random.below(7));
         let row = self.of_class([2, 2, 0, 5, 0, 0, 2][sort]);

@@ -120,6 +120,79 @@ const NAMED: &[(&str, &str, &str)] = &[
     ("name-unknown-without-its-reject", "received A10A02010A06022A08020104", "entry 1 differs"),
 ];
 
+/// Acknowledge, probe and operation 2, all of class 2, and operation 3 of class 3; error 1 of 2 and 3.
+const PROBED: &str = "0004 0010 0001 0030 0002 0036 0000 003E
+    FFFFFFFD 02020A00 FFFFFFFE 02300A00 00000002 02020400 00000003 03000000
+    00000001 0000 0002 0000 0003 0000";
+
+/// Days with probes and acknowledges.
+const PROBES: &[(&str, &str, &str)] = &[
+    (
+        "probe-finished",
+        "received A109020105020102020107, received A10D0201060201FE3005A003020105, sent A20B02010630060201FE0A0100,
+         sent A20C0201053007020102 04024142, received A10D0201070201FE3005A003020105, sent A20B02010730060201FE0A0101,
+         sent A20C0201053007020102 04024142, received A10D0201080201FE3005A003020109, sent A20B02010830060201FE0A0102",
+        "entries 9 agree",
+    ),
+    (
+        "acknowledge",
+        "received A106020105020103, sent A306020105020101, received A1090201060201FD020105,
+         sent A20B02010630060201FD0A0100, received A1090201070201FD020105, sent A20B02010730060201FD0A0101,
+         received A10D0201080201FE3005A003020105, sent A20B02010830060201FE0A0102",
+        "entries 8 agree",
+    ),
+    (
+        "probe-kept-answer-missing",
+        "received A106020105020103, sent A306020105020101, received A10D0201070201FE3005A003020105,
+         sent A20B02010730060201FE0A0101, received A1090201080201FD020105",
+        "entry 4 differs",
+    ),
+    (
+        "probe-kept-answer-missing-at-end",
+        "received A106020105020103, sent A306020105020101, received A10D0201070201FE3005A003020105,
+         sent A20B02010730060201FE0A0101",
+        "entry 4 differs",
+    ),
+    (
+        "probe-result-missing",
+        "received A106020105020103, sent A306020105020101, received A10D0201070201FE3005A003020105,
+         sent A306020105020101",
+        "entry 3 differs",
+    ),
+    (
+        "probe-both-in-one-entry",
+        "received A106020105020103, sent A306020105020101, received A10D0201070201FE3005A003020105,
+         sent A20B02010730060201FE0A0101A306020105020101",
+        "entry 3 differs",
+    ),
+    (
+        "probe-other-octets",
+        "received A106020105020103, sent A306020105020101, received A10D0201070201FE3005A003020105,
+         sent A20B02010730060201FE0A0101, sent A306020105020102",
+        "entry 4 differs",
+    ),
+    (
+        "probe-of-an-id-invoked-again",
+        "received A106020105020103, sent A306020105020101, received A106020105020103,
+         received A10D0201070201FE3005A003020105, sent A20B02010730060201FE0A0100, forget 0100000005,
+         received A10D0201080201FE3005A003020105, sent A20B02010830060201FE0A0102",
+        "entries 8 agree",
+    ),
+    (
+        "probe-mistyped",
+        "received A10A0201070201FE30020500, sent A406020107810102, received A1110201070201FE3080A08002010500000000,
+         sent A20B02010730060201FE0A0102, received A1080201070201FD0500, sent A406020107810102",
+        "entries 6 agree",
+    ),
+    ("acknowledge-result-missing", "received A1090201060201FD020105", "entry 1 differs"),
+    (
+        "probe-sent-beside-a-probe",
+        "sent A10D0201060201FE3005A003020105, sent A10D0201070201FE3005A003020105,
+         received A20B02010630060201FE0A0102",
+        "entries 3 agree",
+    ),
+];
+
 /// Whole captures that are malformed.
 const MALFORMED: &[(&str, &str)] = &[
     ("no-octets", ""),
@@ -155,6 +228,7 @@ const LONG: &[Long] = &[
 
 /// Tables that are not valid, with their captures.
 const TABLES: &[(&str, &str, &str)] = &[
+    ("table-with-probe-alone", "0001 0010 0000 0018 0000 0018 0000 0018 FFFFFFFE 02300A00", "00000000 00000008"),
     ("table-not-valid", "0000 0010 0000 0010 0000 0010 0000 0011", "00000000 00000008"),
     ("table-of-edition-3", "FFFF 0003 0000 0018 0000 0018 0000 0018 0000 0018 0000 0018", "00000000 00000008"),
     ("table-before-capture", "0000 0010 0000 0010 0000 0010 0000 0011", "00000000 00000000"),
@@ -175,10 +249,11 @@ pub fn samples() -> Vec<Sample> {
     let indefinite =
         INDEFINITE.iter().map(|(name, day, line)| sample(name, CONSTRUCTED, days::capture(&entries(day)), *line));
     let named = NAMED.iter().map(|(name, day, line)| sample(name, NAMES, days::capture(&entries(day)), *line));
+    let probes = PROBES.iter().map(|(name, day, line)| sample(name, PROBED, days::capture(&entries(day)), *line));
     let malformed = MALFORMED.iter().map(|(name, capture)| sample(name, TABLE, octets(capture), "refused 20"));
     let long = LONG.iter().map(|(name, capture, line)| sample(name, TABLE, capture(), *line));
     let tables = TABLES.iter().map(|(name, table, capture)| sample(name, table, octets(capture), "refused 1"));
-    days.chain(indefinite).chain(named).chain(malformed).chain(long).chain(tables).collect()
+    days.chain(indefinite).chain(named).chain(probes).chain(malformed).chain(long).chain(tables).collect()
 }
 
 /// The names of the samples' files with their octets. A sample without a table of its own has that of `right.table`.

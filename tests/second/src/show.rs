@@ -3,6 +3,7 @@
 use crate::capture::{Kind, Reader};
 use crate::fault;
 use crate::frame::{self, Frame};
+use crate::kept::Kept;
 use crate::octets::{self, Header, Length, CLOSING};
 use crate::replay::End;
 use crate::resting::Resting;
@@ -50,7 +51,7 @@ fn rule(rule: Rule) -> String {
 pub fn state(state: &State) -> String {
     let sound = if state.is_sound() { "sound" } else { "not sound" };
     let sides = side("own", &state.own) + &side("peer", &state.peer);
-    format!("state, {sound}\n{sides}{}", resting(&state.resting))
+    format!("state, {sound}\n{sides}{}{}", resting(&state.resting), kept(&state.kept))
 }
 
 fn side(name: &str, side: &Side) -> String {
@@ -69,6 +70,16 @@ fn resting(resting: &Resting) -> String {
         text += &format!(", {id}{unused}");
     }
     text + "\n"
+}
+
+fn kept(kept: &Kept) -> String {
+    let mut text = format!("  kept count {}\n", kept.count);
+    for at in 0..kept.shown() {
+        let unused = if at < usize::from(kept.count) { "" } else { " (behind the count)" };
+        let (id, length, octets) = (kept.ids[at], kept.lengths[at], kept.shown_octets(at));
+        text += &format!("    {id} of length {length}{unused}: {}\n", hex(octets));
+    }
+    text
 }
 
 pub fn frame(frame: &Frame<'_>) -> String {

@@ -79,7 +79,7 @@ impl Generator<'_> {
 
     /// The last entry, if it is a Reject that the one before it called for.
     pub(crate) fn awaited(&mut self) -> Option<&mut Logged> {
-        self.entries().last_mut().filter(|entry| entry.awaited)
+        self.entries().last_mut().filter(|entry| entry.awaited && entry.octets[0] == apdu::REJECT)
     }
 
     pub(crate) fn put_before_last(&mut self, entry: Logged) -> Option<bool> {

@@ -1,7 +1,8 @@
-//! The records of open invocations on both sides, the resting ids, and when they are sound.
-//! Follows document 01, "Records" and the limits of "What is built", with document 02, requests Five and Six.
+//! The records of open invocations on both sides, the resting ids, the kept answers, and when they are sound.
+//! Follows document 01, "Records" and the limits of "What is built", with document 02, requests Five to Seven.
 
 use crate::code::Code;
+use crate::kept::Kept;
 use crate::resting::Resting;
 
 /// An open invocation.
@@ -35,6 +36,7 @@ pub struct State {
     pub own: Side,
     pub peer: Side,
     pub resting: Resting,
+    pub kept: Kept,
 }
 
 impl State {
@@ -42,13 +44,26 @@ impl State {
     pub const LEVELS: usize = 16;
     pub const RECORDS: usize = 32;
     pub const RESTING: usize = 64;
+    pub const KEPT: usize = 8;
 
     pub fn fresh() -> State {
-        State { own: Side::empty(), peer: Side::empty(), resting: Resting::none() }
+        State { own: Side::empty(), peer: Side::empty(), resting: Resting::none(), kept: Kept::none() }
     }
 
     pub fn is_sound(&self) -> bool {
-        self.own.is_sound() && self.peer.is_sound() && self.resting.is_sound(&self.own)
+        let records = self.own.is_sound() && self.peer.is_sound();
+        records && self.resting.is_sound(&self.own) && self.kept.is_sound(&self.peer)
+    }
+
+    /// Takes over a state that calls were made from; the kept answers are copied only where a call changed them.
+    pub fn restore(&mut self, before: &State) {
+        let State { own, peer, resting, kept } = before;
+        self.own.clone_from(own);
+        self.peer.clone_from(peer);
+        self.resting.clone_from(resting);
+        if (self.kept.count, self.kept.ids) != (kept.count, kept.ids) {
+            self.kept.clone_from(kept);
+        }
     }
 }
 

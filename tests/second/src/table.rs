@@ -1,7 +1,8 @@
 //! The operation table: validity in one pass, and lookup by code and by index.
-//! Follows document 01, "Operation table", with document 02, request Five.
+//! Follows document 01, "Operation table", with document 02, requests Five and Seven.
 
 use crate::code::{self, Code, Name, NAME_OCTETS};
+use crate::probe::{self, Listed};
 
 const SIZES: [usize; 5] = [8, 6, 4, 4, 1 + NAME_OCTETS];
 const MOST: [usize; 5] = [64, 64, 256, 256, 128];
@@ -39,6 +40,8 @@ pub struct Table<'a> {
     error_pairs: &'a [[u8; 4]],
     child_pairs: &'a [[u8; 4]],
     names: &'a [Name],
+    /// Which of probe and acknowledge it has.
+    pub listed: Listed,
 }
 
 /// A value rule: type 0 demands no value, another type its first octet.
@@ -96,7 +99,7 @@ impl<'a> Table<'a> {
             && names_right(table.names)
             && pairs_right(table.error_pairs, classes.with_errors, table.errors.len())
             && pairs_right(table.child_pairs, classes.with_children, table.operations.len()))
-        .then_some(table)
+        .then_some(Table { listed: probe::listed(table.operations, operation_place)?, ..table })
     }
 
     /// The parts in order, the first behind the header, end to end, filling the octets exactly.
@@ -117,6 +120,7 @@ impl<'a> Table<'a> {
             error_pairs: octets[starts[2]..starts[3]].as_chunks().0,
             child_pairs: octets[starts[3]..starts[4]].as_chunks().0,
             names: octets[starts[4]..starts[5]].as_chunks().0,
+            listed: Listed::Neither,
         })
     }
 

@@ -4,11 +4,11 @@ use crate::answer::Problem;
 use crate::apdu;
 use crate::capture::{Malformed, Reader};
 use crate::octets::{self, Element};
-use crate::replay::{self, How, Verdict};
+use crate::replay::{self, How, Verdict, Written};
 use crate::state::State;
 
 /// Ways in which an entry differs.
-pub const DIFFERS: [&str; 38] = [
+pub const DIFFERS: [&str; 44] = [
     "invoke refused 4",
     "invoke refused 5",
     "invoke refused 22",
@@ -47,6 +47,12 @@ pub const DIFFERS: [&str; 38] = [
     "Reject missing at the end",
     "Reject awaited, entry not sent",
     "Reject awaited, other octets",
+    "result missing at the end",
+    "result awaited, entry not sent",
+    "result awaited, other octets",
+    "kept answer missing at the end",
+    "kept answer awaited, entry not sent",
+    "kept answer awaited, other octets",
 ];
 
 /// The rules of a capture's form.
@@ -104,11 +110,19 @@ fn differs(how: How, octets: &[u8]) -> String {
         How::NoUserReject(None, _) => "Reject with 05 00",
         How::NoUserReject(_, problem) => return format!("Reject {:02x}", problem.octets().0),
         How::OtherSide => "another side",
-        How::RejectMissing => "Reject missing at the end",
-        How::RejectNotSent => "Reject awaited, entry not sent",
-        How::RejectOther => "Reject awaited, other octets",
+        How::Missing(what) => return format!("{} missing at the end", written(what)),
+        How::NotSent(what) => return format!("{} awaited, entry not sent", written(what)),
+        How::Other(what) => return format!("{} awaited, other octets", written(what)),
     };
     name.to_string()
+}
+
+fn written(what: Written) -> &'static str {
+    match what {
+        Written::Reject => "Reject",
+        Written::Result => "result",
+        Written::KeptAnswer => "kept answer",
+    }
 }
 
 /// The identifier octet of the code of an Invoke or Error.

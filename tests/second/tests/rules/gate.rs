@@ -75,19 +75,20 @@ fn the_example_of_the_protocol_and_the_ends_of_a_run() {
     };
     append(frame::TABLE, 0, 0, 0, &table);
     append(frame::STATE, 0, 0, 0, &[1; frame::IMAGE_OCTETS + 1]);
+    append(frame::STATE, 0, 0, 0, &[1; frame::RESTING_IMAGE_OCTETS + 1]);
     append(frame::STATE, 0, 0, 0, &[1; frame::LOCAL_IMAGE_OCTETS - 1]);
     append(frame::INVOKE, 64, 5, 7, &value);
     append(frame::RECEIVE, 11, 0, 0, &error);
     append(8, 0, 0, 0, &[]);
     append(frame::FORGET, 0, 5, 0, &[]);
-    let wanted = "sent own 0001 00000005:00000007 peer 0000 out a109020105020107020103 place 0 rest 0000\n\
-                  error 00000005 00000001 none op 00000007 own 0000 peer 0000 out - place 0 rest 0000\n";
+    let wanted = "sent own 0001 00000005:00000007 peer 0000 out a109020105020107020103 place 0 rest 0000 kept 0000\n\
+                  error 00000005 00000001 none op 00000007 own 0000 peer 0000 out - place 0 rest 0000 kept 0000\n";
     assert_eq!(lines(&script, false), wanted);
     let cut = script.len() - 2 * 18 - 1;
     assert_eq!(lines(&script[..cut], false), wanted[..wanted.find('\n').unwrap() + 1]);
     let mut untouched = Vec::new();
     Frame { kind: frame::FORGET, ..Frame::default() }.append(&mut untouched);
-    assert_eq!(lines(&untouched, false), "refused 1 own 0000 peer 0000 out - place 0 rest 0000\n");
+    assert_eq!(lines(&untouched, false), "refused 1 own 0000 peer 0000 out - place 0 rest 0000 kept 0000\n");
 }
 
 #[test]

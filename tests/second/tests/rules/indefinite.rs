@@ -223,7 +223,10 @@ fn contents_and_rest_of_an_element() {
 #[test]
 fn document_01s_table_takes_them_too() {
     let line = play(&hex(T), &state(&[(5, 7)], &[]), "receive A2 80 02 01 05 30 80 02 01 07 02 01 00 00 00 00 00");
-    assert_eq!(line, "result 00000005 00000007 020100 op 00000007 own 0000 peer 0000 out - place 0 rest 0000");
+    assert_eq!(
+        line,
+        "result 00000005 00000007 020100 op 00000007 own 0000 peer 0000 out - place 0 rest 0000 kept 0000"
+    );
 }
 
 #[test]

@@ -1,6 +1,6 @@
 //! Lines read back, lines that the protocol does not have, and lines that break a rule of every call.
 
-use crate::common::{hex, lines, T};
+use crate::common::{hex, lines, model, T};
 use second::drive::Drive;
 use second::frame::{self, Frame};
 use second::generate;
@@ -52,7 +52,7 @@ fn other_lines_are_none() {
         &format!("forgotten own 0021{places} peer 0000 out - place 0"),
     ];
     for line in others {
-        let line = format!("{line} rest 0000");
+        let line = format!("{line} rest 0000 kept 0000");
         assert!(Line::read(&line, &mut Room::default()).is_none(), "{line}");
     }
 }
@@ -63,11 +63,12 @@ fn lines_with_another_end_are_none() {
         ["", " place", " place ", " place none", " place 00", " place +1", " place -1", " place 0a", " place 5 "];
     let more = [" place 0 place 0", " place 0 spoiled", " place 0 value none", " value none place 0"];
     for end in ends.into_iter().chain(more) {
-        let line = format!("sent own 0000 peer 0000 out -{end} rest 0000");
+        let line = format!("sent own 0000 peer 0000 out -{end} rest 0000 kept 0000");
         assert!(Line::read(&line, &mut Room::default()).is_none(), "{line}");
     }
     for (answer, place) in [("sent", 0), ("refused 9", 5), ("refused 21", 5000), ("refused 10", 7)] {
-        let (line, mut room) = (format!("{answer} own 0000 peer 0000 out - place {place} rest 0000"), Room::default());
+        let (line, mut room) =
+            (format!("{answer} own 0000 peer 0000 out - place {place} rest 0000 kept 0000"), Room::default());
         let read = Line::read(&line, &mut room).unwrap();
         let shown = if answer == "refused 10" { 0 } else { place };
         assert_eq!((read.place, read.answer.place()), (place, shown), "{line}");
@@ -81,17 +82,17 @@ fn lines_with_other_resting_ids_are_none() {
     for rest in
         ["", " rest", " rest ", " rest 0", " rest 0001", " rest 0000 00000000", " rest 0001 7", " rest none", &over]
     {
-        let line = format!("sent own 0000 peer 0000 out - place 0{rest}");
+        let line = format!("sent own 0000 peer 0000 out - place 0{rest} kept 0000");
         assert!(Line::read(&line, &mut Room::default()).is_none(), "{line}");
     }
     let more =
         [" rest 0000 place 0", " rest 0000 spoiled", " rest 0000 value none", " rest 0000 rest 0000", " rest 0000 "];
     for end in more {
-        let line = format!("sent own 0000 peer 0000 out - place 0{end}");
+        let line = format!("sent own 0000 peer 0000 out - place 0{end} kept 0000");
         assert!(Line::read(&line, &mut Room::default()).is_none(), "{line}");
     }
     for rest in [" rest 0000", " rest 0001 00000000", " rest 0000 00000007", " rest 0002 ffffffff 00000000", &most] {
-        let (line, mut room) = (format!("sent own 0000 peer 0000 out - place 0{rest}"), Room::default());
+        let (line, mut room) = (format!("sent own 0000 peer 0000 out - place 0{rest} kept 0000"), Room::default());
         assert!(Line::read(&line, &mut room).is_some(), "{line}");
     }
 }
@@ -171,6 +172,53 @@ fn rules_of_every_call() {
         ("\n", "", refused, "no line of the drive protocol"),
     ] {
         let told = after_invoke(old, new, second).err().unwrap_or_default();
+        assert!(told.starts_with(rule), "{new}: {told}");
+    }
+}
+
+/// A peer's invocation, its result, and then a probe of it, with a text of the lines replaced.
+fn after_result(old: &'static str, new: &'static str, second: &str) -> Result<(), String> {
+    let rows = [(-3, 2, 0x02, 0x0A, 0), (-2, 2, 0x30, 0x0A, 0), (7, 2, 0, 0x02, 0)];
+    let table = model(&rows, &[], &[], &[]).octets();
+    let mut end = Played::new(Box::new(Changed { drive: Drive::default(), old, new }), &table)?;
+    let (value, invoke, probe) = (hex("02 01 03"), hex("A1 06 02 01 05 02 01 07"), hex(second));
+    end.call(&Frame { kind: frame::RECEIVE, lent: 528, payload: &invoke, ..Frame::default() })?;
+    end.call(&Frame { kind: frame::RESULT, lent: 64, id: 5, payload: &value, ..Frame::default() })?;
+    end.call(&Frame { kind: frame::RECEIVE, lent: 528, payload: &probe, ..Frame::default() })?;
+    Ok(())
+}
+
+#[test]
+fn kept_answers_of_every_call() {
+    let [probe, acknowledge, again] =
+        ["A1 0D 02 01 06 02 01 FE 30 05 A0 03 02 01 05", "A1 09 02 01 06 02 01 FD 02 01 05", "A1 06 02 01 05 02 01 07"];
+    for second in [probe, acknowledge, again] {
+        assert_eq!(after_result("", "", second), Ok(()));
+    }
+    let (kept, octets) = ("other answers are kept than the call says", "other octets were written");
+    for (old, new, second, rule) in [
+        ("kept 0001 00000005:000d:a20b0201053006020107020103", "kept 0000", probe, kept),
+        ("kept 0001 00000005", "kept 0001 00000006", probe, kept),
+        (
+            "020103 place 0 rest 0000 kept 0001 00000005:000d:a20b",
+            "020103 place 0 rest 0000 kept 0001 00000005:000d:a30b",
+            probe,
+            kept,
+        ),
+        ("0a0101a20b", "0a0102a20b", probe, octets),
+        ("0a0101a20b0201053006020107020103", "0a0101", probe, octets),
+        ("0a0101a20b0201053006020107020103", "0a0101a20b0201053006020107020104", probe, octets),
+        ("0a0100 place 0 rest 0000 kept 0000", "0a0101 place 0 rest 0000 kept 0000", acknowledge, octets),
+        (
+            "0a0100 place 0 rest 0000 kept 0000",
+            "0a0100 place 0 rest 0000 kept 0001 00000005:0001:a2",
+            acknowledge,
+            kept,
+        ),
+        ("answered", "forgotten", probe, "the call has no such answer"),
+        ("answered own 0000 peer 0000", "answered own 0000 peer 0001 00000006:fffffffe", probe, "an answered probe"),
+    ] {
+        let told = after_result(old, new, second).err().unwrap_or_default();
         assert!(told.starts_with(rule), "{new}: {told}");
     }
 }

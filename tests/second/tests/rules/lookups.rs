@@ -13,9 +13,15 @@ use second::names;
 use second::random::Random;
 use second::table::Table;
 
-/// The octets of a table whose operations and errors have these codes; no error is paired.
+/// The octets of a table whose operations and errors have these codes; no error is paired, and a probe or acknowledge
+/// has the rows it must have.
 fn table(codes: &[i32]) -> Vec<u8> {
-    let operations: Vec<_> = codes.iter().map(|&code| (code, 2, 0, 0, 0)).collect();
+    let row = |code: i32| match code {
+        -3 => (code, 2, 0x02, 0x0A, 0),
+        -2 => (code, 2, 0x30, 0x0A, 0),
+        _ => (code, 2, 0, 0, 0),
+    };
+    let operations: Vec<_> = codes.iter().map(|&code| row(code)).collect();
     let errors: Vec<_> = codes.iter().map(|&code| (code, 0, 0)).collect();
     model(&operations, &errors, &[], &[]).octets()
 }
@@ -24,7 +30,11 @@ fn table(codes: &[i32]) -> Vec<u8> {
 fn every_entry_is_found_and_nothing_else() {
     let mut random = Random::new(1);
     for length in (0..=64).cycle().take(65 * 20) {
-        let codes = codes::spread(&mut random, length);
+        let mut codes = codes::spread(&mut random, length);
+        // No probe stands without acknowledge.
+        if !codes.contains(&-3) {
+            codes.iter_mut().filter(|code| **code == -2).for_each(|code| *code = -3);
+        }
         let octets = table(&codes);
         let table = Table::new(&octets).unwrap();
         let beside = codes.iter().flat_map(|code| [code.wrapping_sub(1), *code, code.wrapping_add(1)]);
@@ -63,14 +73,14 @@ fn drawn_codes_stand_where_they_are_to_stand() {
 
 #[test]
 fn a_call_finds_the_ends_of_a_full_list() {
-    let codes: Vec<i32> = (0..64).map(|at| 2 * at - 64).collect();
+    let codes: Vec<i32> = (0..64).map(|at| 2 * at - 63).collect();
     let octets = table(&codes);
-    for (code, answer) in [(-65, "refused 4"), (-64, "sent"), (-63, "refused 4"), (61, "refused 4"), (62, "sent")] {
+    for (code, answer) in [(-64, "refused 4"), (-63, "sent"), (-62, "refused 4"), (62, "refused 4"), (63, "sent")] {
         let line = play(&octets, &state(&[], &[]), &format!("invoke 5 {code}"));
         assert!(line.starts_with(answer), "{code}: {line}");
     }
-    for (code, problem) in [("BF", "02"), ("C0", "03"), ("C1", "02"), ("3D", "02"), ("3E", "03"), ("3F", "02")] {
-        let line = play(&octets, &state(&[(5, 0)], &[]), &format!("receive A3060201050201{code}"));
+    for (code, problem) in [("C0", "02"), ("C1", "03"), ("C2", "02"), ("3E", "02"), ("3F", "03"), ("40", "02")] {
+        let line = play(&octets, &state(&[(5, 1)], &[]), &format!("receive A3060201050201{code}"));
         assert!(line.starts_with(&format!("refused 18 83 {problem}")), "{code}: {line}");
     }
 }

@@ -204,15 +204,16 @@ fn records_hold_names() {
 fn images_of_every_sort() {
     let state = state(&[(5, named("2A")), (6, Code::Local(2))], &[]);
     let image = frame::image(&state);
-    assert_eq!((image.len(), frame::local_image(&state)), (1606, None));
+    assert_eq!((image.len(), frame::local_image(&state)), (5752, None));
     assert_eq!(frame::named_image(&state), Some(image[..1348].to_vec()));
-    for image in [&image[..], &image[..1348]] {
+    assert_eq!(frame::resting_image(&state), Some(image[..1606].to_vec()));
+    for image in [&image[..], &image[..1606], &image[..1348]] {
         assert_eq!(frame::read_image(image), Some(state.clone()));
     }
     let local = self::state(&[(6, Code::Local(-2))], &[(7, Code::Local(2))]);
     let short = frame::local_image(&local).unwrap();
     assert_eq!((short.len(), frame::read_image(&short)), (516, frame::read_image(&frame::image(&local))));
-    for length in [0, 515, 517, 1347, 1349, 1605, 1607, 5752] {
+    for length in [0, 515, 517, 1347, 1349, 1605, 1607, 5751, 5753, 5754] {
         assert_eq!(frame::read_image(&vec![0; length]), None, "{length}");
     }
     let mut script = Vec::new();
@@ -222,7 +223,7 @@ fn images_of_every_sort() {
     }
     let zeros = "00".repeat(15);
     let records = format!("own 0001 00000005:n012a{zeros} peer 0000");
-    assert_eq!(lines(&script, false), format!("forgotten {records} out - place 0 rest 0001 00000006\n"));
+    assert_eq!(lines(&script, false), format!("forgotten {records} out - place 0 rest 0001 00000006 kept 0000\n"));
 }
 
 #[test]

@@ -201,10 +201,10 @@ fn no_place_without_a_fault_of_the_octets() {
     let long = format!("receive {}", text(&[0xA1; 4097]));
     check_line(&long, "refused 3", 0);
     assert!(play(&[], &State::fresh(), "receive A1 02 10 00")
-        .ends_with("refused 1 own 0000 peer 0000 out - place 0 rest 0000"));
+        .ends_with("refused 1 own 0000 peer 0000 out - place 0 rest 0000 kept 0000"));
     let unsound = state(&[(5, 7), (5, 7)], &[]);
     assert!(play(&table(), &unsound, "invoke 9 7 30 80").starts_with("refused 19 own 0002 "));
-    assert!(play(&table(), &unsound, "invoke 9 7 30 80").ends_with(" place 0 rest 0000"));
+    assert!(play(&table(), &unsound, "invoke 9 7 30 80").ends_with(" place 0 rest 0000 kept 0000"));
 }
 
 #[test]

@@ -130,9 +130,10 @@ fn only_invoke_problems_retire() {
         let call = format!("receive A4 06 02 01 05 {kind} 01 {number:02x}");
         play(&table(), &state(&[(4, 2), (5, 2), (6, 2)], &[(5, 2)]), &call)
     };
-    let gap = "own 0002 00000004:00000002 00000006:00000002 peer 0001 00000005:00000002 out - place 0 rest 0000";
+    let gap =
+        "own 0002 00000004:00000002 00000006:00000002 peer 0001 00000005:00000002 out - place 0 rest 0000 kept 0000";
     let three = "own 0003 00000004:00000002 00000005:00000002 00000006:00000002";
-    let all = format!("{three} peer 0001 00000005:00000002 out - place 0 rest 0000");
+    let all = format!("{three} peer 0001 00000005:00000002 out - place 0 rest 0000 kept 0000");
     for number in 0..8 {
         assert_eq!(after("81", number), format!("reject-u 00000005 81 {number:02x} {gap}"));
     }
@@ -145,7 +146,7 @@ fn only_invoke_problems_retire() {
         assert_eq!(after("80", number), format!("reject-p 00000005 80 {number:02x} {all}"));
     }
     let line = play(&table(), &State::fresh(), "receive A4 06 02 01 05 81 01 01");
-    assert_eq!(line, "reject-u 00000005 81 01 own 0000 peer 0000 out - place 0 rest 0000");
+    assert_eq!(line, "reject-u 00000005 81 01 own 0000 peer 0000 out - place 0 rest 0000 kept 0000");
 }
 
 #[test]
@@ -207,5 +208,5 @@ fn soundness() {
     let line = play(&[], &cases[4].0, "@0 own 1");
     assert!(line.starts_with("refused 19 own 0000 peer 0000 00000000:00000000 "), "{line}");
     let retired = play(&hex("0000 0010 0000 0010 0000 0010 0000 0010"), &State::fresh(), "own 1");
-    assert_eq!(retired, "refused 11 own 0000 peer 0000 out - place 0 rest 0000");
+    assert_eq!(retired, "refused 11 own 0000 peer 0000 out - place 0 rest 0000 kept 0000");
 }

@@ -27,7 +27,8 @@ fn check(state: &State, cases: &[(&str, &str)]) {
 /// What follows ` rest ` in the line of a call.
 fn rest(state: &State, call: &str) -> String {
     let line = play(&table(), state, call);
-    line.split_once(" rest ").expect("each line shows what rests").1.to_string()
+    let (_, rest) = line.split_once(" rest ").expect("each line shows what rests");
+    rest.split_once(" kept ").expect("each line shows what is kept").0.to_string()
 }
 
 #[test]
@@ -94,7 +95,7 @@ fn only_an_accepted_forget_of_an_own_record_lets_an_id_rest() {
     }
     let mut silent = State::fresh();
     silent.peer.add(5, second::code::Code::Local(3));
-    assert_eq!(play(&table(), &silent, "peer 5"), "forgotten own 0000 peer 0000 out - place 0 rest 0000");
+    assert_eq!(play(&table(), &silent, "peer 5"), "forgotten own 0000 peer 0000 out - place 0 rest 0000 kept 0000");
 }
 
 #[test]
@@ -192,6 +193,6 @@ fn lines_show_each_place_up_to_the_last_that_is_not_0() {
     assert_eq!(line(65, &[3]), format!("0041 00000003{}", " 00000000".repeat(63)));
     let (mut drive, mut text) = (Drive::new(table(), resting(&[5], &[], &[6])).showing_places(true), Vec::new());
     drive.play(&Frame { kind: frame::FORGET, id: 5, ..Frame::default() }, &mut text);
-    let wanted = "forgotten own 0000 peer 0000 out - place 0 rest 0002 00000006 00000005 value none\n";
+    let wanted = "forgotten own 0000 peer 0000 out - place 0 rest 0002 00000006 00000005 kept 0000 value none\n";
     assert_eq!(String::from_utf8(text).unwrap(), wanted);
 }

@@ -107,7 +107,7 @@ fn table_validity() {
     let valid = |octets: &[u8]| Table::new(octets).is_some();
     assert!(valid(&hex("0000 0010 0000 0010 0000 0010 0000 0010")));
     assert!(!valid(&hex("0000 0010 0000 0011 0000 0010 0000 0010")));
-    let base = [(-2, 2, 0x02, 0x02, 0), (1, 3, 0, 0, 0), (2, 4, 0, 0, 0), (3, 5, 0, 0, 0)];
+    let base = [(-4, 2, 0x02, 0x02, 0), (1, 3, 0, 0, 0), (2, 4, 0, 0, 0), (3, 5, 0, 0, 0)];
     let with = |change: fn(&mut [Row; 4])| {
         let mut operations = base;
         change(&mut operations);

@@ -152,16 +152,20 @@ fn extensions_are_worded_and_agree_with_the_rule() {
 #[test]
 fn wrong_texts_name_a_line_of_theirs() {
     let mut random = Random::new(4);
-    let mut reasons = BTreeSet::new();
+    let (mut reasons, mut open) = (BTreeSet::new(), 0);
     for way in spoiled::ways() {
         for _ in 0..60 {
             let wrong = spoiled::wrong(way, &mut random);
             let lines = wrong.text.split(|&octet| octet == b'\n').count();
-            assert!(wrong.line < lines && (wrong.line == 0) == (wrong.text.len() > 65_536), "{way}");
+            let too_long = wrong.text.len() > 65_536;
+            assert!(wrong.line < lines && (wrong.line == 0 || !too_long), "{way}");
             assert_eq!(wrong.reasons.is_empty(), wrong.line == 0, "{way}");
+            open += usize::from(wrong.line == 0 && !too_long);
             reasons.extend(wrong.reasons);
         }
     }
+    // How a rule of probe or acknowledge is told is open; few others meet one.
+    assert!((5 * 60..8 * 60).contains(&open), "{open}");
     for reason in ["':'", "','", "'code'", "'class'", "'argument'", "'result'", "'parameter'", "'operation'"] {
         assert!(reasons.contains(&format!("expected {reason}")), "{reason}");
     }
@@ -178,6 +182,7 @@ fn right(case: &Case) -> Got {
     };
     match &case.expected {
         Expected::Says(lines) => Got { said: lines.clone().into_bytes(), ..Got::default() },
+        Expected::NotValid(name) => Got { said: format!("{name}: wrong\n").into_bytes(), ..Got::default() },
         Expected::Makes(octets) => Got { out: Some(octets.clone()), ..Got::default() },
         Expected::Refuses(lines) => {
             let line = lines.last().cloned().unwrap_or("too long".to_string());
@@ -200,7 +205,7 @@ fn differences_are_found() {
         let too_long = matches!(&case.expected, Expected::Refuses(lines) if lines.is_empty());
         let finds = [&said, &complained, &made, &none].map(|got| !case.agrees(got));
         let expected = match case.expected {
-            Expected::Says(_) => [true, true, false, false],
+            Expected::Says(_) | Expected::NotValid(_) => [true, true, false, false],
             Expected::Makes(_) => [false, true, true, true],
             Expected::Refuses(_) => [false, !too_long, true, right.out.is_some()],
         };

@@ -6,7 +6,7 @@ use Rattle.player.proofs.asking.unfit.Tie as tie
 
 returns : tie.Need-returns
 unfolding heldBy readRequested
-returns c = λ out x. refl
+returns c = λ store out x. refl
 
 pub unfit-spec : {M : Type 1} → statement M
 unfit-spec =

@@ -7,44 +7,53 @@ use Rattle.protocol.specs.Perform.{done}
 use Rattle.protocol.proofs.Facts.{result-facts}
 use Rattle.base.specs.Lists.{nonEmpty}
 use Rattle.apdu.specs.Encode.{encodeResult}
-use Rattle.rose.proofs.Calls.{request-refused, request-accepted, all-pass, sent-fits}
+use Rattle.rose.proofs.Calls.{request-refused, request-sent, all-pass, kept-sound, sent-fits, keeps-as, answered-as}
+use Rattle.rose.proofs.Verdicts.{checks-valid, opened-passes}
 use Rattle.rose.specs.declared.verdict.Verdict.the-variants.{Passes}
 use Rattle.rose.specs.Steps.{Judged}
+use Rattle.records.specs.Held.{Held}
 use borrow.Author.Needs.{needs}
 use Rattle.rose.proofs.requesting.result.Statement.{statement}
 use Rattle.rose.proofs.requesting.result.Tie as tie
 
 abbrev start : tie.After-check-result → tie.Start
-start c = c .before .before .before .before .before .before .before .before .before .before .before .before .before .before .before .before
+start c = c .before .before .before .before .before .before .before .before .before .before .before .before .before .before .before .before .before .before .before .before
+
+-- what the end holds before
+abbrev held : tie.Start → Held
+held c = record { state = c .args .t1; store = c .args .store .now }
 
 abbrev call : tie.Start → Call
 call c = result (c .args .id .0) (c .args .value .now) (length (c .args .out .now))
 
-verdict : (c : tie.After-check-result) → Judged (start c .args .table .now) (start c .args .t1) (call (start c)) (c .check-result .result)
-verdict c = c .check-result .ensures (start c .args .t1) 0 (c .before .before .opening-of .ensures) (c .before .check-value .ensures inBody refl)
+verdict : (c : tie.After-check-result) → Judged (start c .args .table .now) (held (start c)) (call (start c)) (c .check-result .result)
+verdict c = c .check-result .ensures (held (start c)) 0 (c .before .before .opening-of .ensures) (c .before .check-value .ensures inBody refl)
 
 returns : tie.Need-returns
 returns c =
     let why = c .before .before in let checked = why .before .before in let b = start checked .args in
-    request-refused (b .table .now) (b .t1) (call (start checked)) _ (verdict checked) (why .why .given .0 .0) (why .why .given .1) (b .value .now) (b .out .now) _
+    request-refused (b .table .now) (held (start checked)) (call (start checked)) _ (verdict checked) (why .why .given .0 .0) (why .why .given .1) (b .value .now) (b .out .now) _
     (checked .before .check-value .ensures inBody refl .place) _ (c .refused .ensures)
 
 passes : (a : tie.After-enum-told) → a .before .before .check-result .result ≡ Passes
-passes a = cc
+passes a = a .enum-told .given .1
 
 returns-2 : tie.Need-returns-2
 unfolding done
 returns-2 c =
-    let retired = c .before in let written = retired .before .before .before in let code = written .before in let told = code .before .before in
-    let checked = told .before .before in let b = start checked .args in let T = b .table .now in let s = b .t1 in
-    let passed = all-pass T s (call (start checked)) _ (verdict checked) (passes told) in
-    let same : code .code-found .result ≡ codeIn (peerRecords s) (b .id .0) = code .code-found .ensures ∙ ap codeFound (checked .before .before .opening-of .ensures .found) in
-    request-accepted T s (call (start checked)) _ (verdict checked) (passes told) (b .value .now) _ (encodeResult (b .id .0) (code .code-found .result) (nonEmpty (b .value .now)))
-    (rw (retired .retire-peer .ensures, same) refl) (b .out .now) _ _
-    (sent-fits 2 (b .value .now) _ (b .out .now) (rw same (result-facts T s (b .id .0) (b .value .now) (length (b .out .now)) passed .sendable))) (written .write-result .ensures) _ (c .accepted .ensures)
+    let done = c .before .before .before in let between = done .before in let keeps = between .before .before .before in let written = keeps .before .before .before in
+    let code = written .before .before in let told = code .before in let checked = told .before .before in let b = start checked .args in let T = b .table .now in let s = held (start checked) in
+    let v = verdict checked in let o = passes told in let passed = all-pass T s (call (start checked)) _ v o in let opened = checked .before .before in let opens = opened .opening-of .ensures in
+    let facts = result-facts T s (b .id .0) (b .value .now) (length (b .out .now)) passed in
+    let same : code .code-found .result ≡ codeIn (peerRecords s) (b .id .0) = code .code-found .ensures ∙ ap codeFound (opens .found) in
+    let x = encodeResult (b .id .0) (code .code-found .result) (nonEmpty (b .value .now)) in
+    let fits = sent-fits inBody (b .value .now) x (b .out .now) (rw same (facts .sendable)) in
+    let kept = keeps-as T s (b .id .0) _ _ (checks-valid T s (call (start checked)) passed) (opens .found) (facts .live) (opens .stands (opened-passes T s (call (start checked)) _ (opens .verdict) passed)) _ (code .code-found .ensures) _ (keeps .keeps-answers .ensures) in
+    let holds = answered-as T s (b .id) x (b .out .now) _ _ fits (written .write-result .ensures) _ (between .between .ensures) _ kept _ (done .answered .ensures (peerRecords s) (kept-sound T s (call (start checked)) _ v o)) in
+    request-sent T s (call (start checked)) _ v o (b .value .now) _ x (rw (holds, same) refl) (b .out .now) _ _ fits (written .write-result .ensures) _ (c .accepted .ensures)
 
 pub result-spec : {M : Type 1} → statement M
 result-spec =
     tie.close
     (tie.spec (λ c κs. search needs) (λ c. search needs) (λ c κs. search needs) (λ c κs. search needs) (λ c. search needs) (λ c κs. search needs) (λ c. search needs) (λ c κs. search needs)
-    (λ c κs. search needs) (λ c κs. search needs) (λ c κs. search needs) returns (λ c. search needs) returns-2)
+    (λ c κs. search needs) (λ c κs. search needs) (λ c κs. search needs) (λ c κs. search needs) (λ c κs. search needs) (λ c. search needs) returns (λ c. search needs) (λ c. search needs) returns-2)
