@@ -25,8 +25,6 @@ pub enum Question {
 pub enum Expected {
     /// This on standard output, and nothing on standard error.
     Says(String),
-    /// One line on standard output that says of the file with this name that it is not valid, in words that are open.
-    NotValid(&'static str),
     /// These octets in OUT, and nothing on standard error.
     Makes(Vec<u8>),
     /// One of these on standard error, or anything if there are none, and OUT as it was.
@@ -59,7 +57,6 @@ impl Case {
         }
         match &self.expected {
             Expected::Says(lines) => got.complained.is_empty() && got.said == lines.as_bytes(),
-            Expected::NotValid(name) => got.complained.is_empty() && says_not_valid(name, &got.said),
             Expected::Makes(octets) => got.complained.is_empty() && got.out.as_ref() == Some(octets),
             Expected::Refuses(lines) => {
                 let told = match &lines[..] {
@@ -86,7 +83,6 @@ impl Case {
         text += "\nexpected:\n";
         match &self.expected {
             Expected::Says(lines) => text += &format!("{lines}and nothing on standard error\n"),
-            Expected::NotValid(name) => text += &format!("  one line that says what is wrong with {name}\n"),
             Expected::Makes(octets) => text += &format!("  {OUT}: {}\n  nothing on standard error\n", hex(octets)),
             Expected::Refuses(lines) if lines.is_empty() => text += &format!("  a refusal, {OUT} as before\n"),
             Expected::Refuses(lines) => text += &format!("{}  {OUT} as before\n", lines.join("or\n")),
@@ -106,13 +102,6 @@ impl Case {
         }
         text
     }
-}
-
-/// Whether what is said is one line about the file and not that it is valid.
-fn says_not_valid(name: &str, said: &[u8]) -> bool {
-    let text = String::from_utf8_lossy(said);
-    let line = text.strip_suffix('\n').and_then(|line| line.strip_prefix(&format!("{name}: ")));
-    line.is_some_and(|told| !told.is_empty() && !told.contains('\n') && !told.starts_with("valid"))
 }
 
 fn out(octets: &Option<Vec<u8>>) -> String {

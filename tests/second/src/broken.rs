@@ -4,6 +4,7 @@ use crate::code::{self, Code, Name};
 use crate::first_fault::{LONGEST_FILE, RULES};
 use crate::model::{any_type, Model, OperationRow};
 use crate::names;
+use crate::probe::{ACKNOWLEDGE, PROBE};
 use crate::probe_rows;
 use crate::random::Random;
 
@@ -66,16 +67,13 @@ const BREAKS: [Break; RULES.len()] = [
         Some(())
     }),
     Octets(|octets, random| name_index(octets, 0, random)),
-    Rows(|model, random| {
-        let at = behind_the_first(model.operations.len(), random)?;
-        model.operations[at].code = at_most(model.operations[at - 1].code, model.names(), random);
-        Some(())
-    }),
     Rows(probe_rows::break_class),
     Rows(probe_rows::break_argument),
+    Rows(|model, random| probe_rows::break_optional(model, random, &[1, 3])),
     Rows(probe_rows::break_result),
-    Rows(probe_rows::break_optional),
+    Rows(|model, random| probe_rows::break_optional(model, random, &[2])),
     Rows(probe_rows::break_pair),
+    Rows(operation_order),
     Rows(|model, random| count(model, 1, random)),
     Rows(|model, random| {
         let at = any(model.errors.len(), random)?;
@@ -134,10 +132,16 @@ pub fn one(rule: usize, random: &mut Random) -> Vec<u8> {
     }
 }
 
-/// A valid table with two rules broken; what they make together may break others.
+/// A valid table with two rules broken, now and then both of probe or the one behind those; what they make together
+/// may break others.
 pub fn two(random: &mut Random) -> Vec<u8> {
+    let of_probe = |rule: &usize| RULES[*rule].starts_with("probe") || RULES[*rule] == "operation order";
+    let of_probe: Vec<usize> = (0..RULES.len()).filter(of_probe).collect();
     loop {
         let mut rules = [random.below(RULES.len()), random.below(RULES.len())];
+        if random.percent(15) {
+            rules = rules.map(|rule| of_probe[rule % of_probe.len()]);
+        }
         // A count is broken in another table, so that comes first.
         rules.sort_by_key(|&rule| !RULES[rule].ends_with("count"));
         if let Some(octets) = apply(Model::varied(random), &rules, random) {
@@ -345,6 +349,18 @@ fn class(rows: &[OperationRow], least: u8, pairs: &mut [(u16, u16)], random: &mu
     let indexes: Vec<usize> = (0..rows.len()).collect();
     pairs[at].0 = random.pick_where(&indexes, |&index| rows[index].class >= least)? as u16;
     Some(())
+}
+
+/// Probe stands before acknowledge, or an operation gets a code that is not above the one before, with a right row for it.
+fn operation_order(model: &mut Model, random: &mut Random) -> Option<()> {
+    if random.percent(20) {
+        return probe_rows::break_order(model, random);
+    }
+    let at = behind_the_first(model.operations.len(), random)?;
+    let code = at_most(model.operations[at - 1].code, model.names(), random);
+    model.operations[at].code = code;
+    probe_rows::settle(&mut model.operations[at]);
+    (code != Code::Local(PROBE) || model.operation(Code::Local(ACKNOWLEDGE)).is_some()).then_some(())
 }
 
 /// A pair becomes an allowed one that is not above the one before.

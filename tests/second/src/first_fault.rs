@@ -8,7 +8,7 @@ const MOST: [usize; 5] = [64, 64, 256, 256, 128];
 pub const LONGEST_FILE: usize = 5144;
 
 /// Every rule by name, in the order of the faults as far as there is one.
-pub const RULES: [&str; 45] = [
+pub const RULES: [&str; 46] = [
     "file length",
     "edition",
     "header length",
@@ -27,12 +27,13 @@ pub const RULES: [&str; 45] = [
     "result type",
     "result of class",
     "operation name index",
-    "operation order",
     "probe class",
-    "probe argument",
-    "probe result",
-    "probe optional",
+    "probe argument type",
+    "probe argument optional",
+    "probe result type",
+    "probe result optional",
     "probe without acknowledge",
+    "operation order",
     "error count",
     "error flags",
     "parameter optional",
@@ -70,8 +71,6 @@ pub struct Fault {
     pub rule: String,
     pub place: Place,
     pub says: String,
-    /// Whether a rule of probe or acknowledge is broken: how that is told, and before which other fault, is open.
-    pub open: bool,
 }
 
 impl Fault {
@@ -106,7 +105,7 @@ fn check(octets: &[u8]) -> Result<(), Fault> {
     require(length >= header, "header length", Place::Header, || format!("{length} octets, expected {header}"))?;
     let parts = split(octets, (mark, parts))?;
     let flags = if second { [0x0F, 0x03] } else { [0x03, 0x01] };
-    entries(&parts, flags).map_err(|fault| Fault { open: breaks_a_probe_rule(&parts), ..fault })
+    entries(&parts, flags)
 }
 
 /// Part by part, the counts and the entries.
@@ -162,8 +161,8 @@ fn operation(parts: &Parts<'_>, index: usize, allowed: u8) -> Result<(), Fault> 
         format!("result type is {result:02x}, expected 00 for class {class}")
     })?;
     name_index(parts, 0, index)?;
-    rising(parts, 0, index)?;
-    probe(parts, index)
+    probe(parts, index)?;
+    rising(parts, 0, index)
 }
 
 /// The local code of an operation, if it is that of a probe or acknowledge.
@@ -177,19 +176,24 @@ fn probe_code(parts: &Parts<'_>, index: usize) -> Option<i32> {
 /// The rules of a probe and an acknowledge.
 fn probe(parts: &Parts<'_>, index: usize) -> Result<(), Fault> {
     let Some(code) = probe_code(parts, index) else { return Ok(()) };
-    let (place, type_of) = (Place::Entry(0, index), if code == -2 { 0x30 } else { 0x02 });
+    let place = Place::Entry(0, index);
+    let (words, type_of) = if code == -2 { ("code -2 (probe)", 0x30) } else { ("code -3 (acknowledge)", 0x02) };
     let [class, argument, result, flags] = [4, 5, 6, 7].map(|at| parts[0][index][at]);
-    let other = |what: &str, is: u8| format!("{what} is {is:02x}, another than that of code {code}");
-    require(class == 1 || class == 2, "probe class", place, || other("class", class))?;
-    require(argument == type_of, "probe argument", place, || other("argument type", argument))?;
-    require(result == 0x0A, "probe result", place, || other("result type", result))?;
-    require(flags & 3 == 0, "probe optional", place, || format!("code {code} is optional"))?;
+    require(class == 1 || class == 2, "probe class", place, || {
+        format!("class is {class}, expected 1 or 2 for {words}")
+    })?;
+    for (name, kind, right, flag) in [("argument", argument, type_of, 1), ("result", result, 0x0A, 2)] {
+        require(kind == right, &format!("probe {name} type"), place, || {
+            format!("{name} type is {kind:02x}, expected {right:02x} for {words}")
+        })?;
+        require(flags & flag == 0, &format!("probe {name} optional"), place, || {
+            format!("{name} is optional, expected not optional for {words}")
+        })?;
+    }
     let acknowledged = code == -3 || (0..parts[0].len()).any(|other| probe_code(parts, other) == Some(-3));
-    require(acknowledged, "probe without acknowledge", place, || "code -2 stands without code -3".to_string())
-}
-
-fn breaks_a_probe_rule(parts: &Parts<'_>) -> bool {
-    (0..parts[0].len()).any(|index| probe(parts, index).is_err())
+    require(acknowledged, "probe without acknowledge", place, || {
+        format!("{words} needs an operation with code -3 (acknowledge)")
+    })
 }
 
 fn error(parts: &Parts<'_>, index: usize, allowed: u8) -> Result<(), Fault> {
@@ -282,7 +286,7 @@ fn require(holds: bool, rule: &str, place: Place, says: impl FnOnce() -> String)
     if holds {
         return Ok(());
     }
-    Err(Fault { rule: rule.to_string(), place, says: says(), open: false })
+    Err(Fault { rule: rule.to_string(), place, says: says() })
 }
 
 fn half(octets: &[u8], at: usize) -> usize {

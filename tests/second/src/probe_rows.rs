@@ -228,10 +228,18 @@ pub fn break_result(model: &mut Model, random: &mut Random) -> Option<()> {
     (kind != RESULT).then(|| model.row(code).result = kind)
 }
 
-/// One of the two has an optional argument or result.
-pub fn break_optional(model: &mut Model, random: &mut Random) -> Option<()> {
+/// One of the two has some of these flags.
+pub fn break_optional(model: &mut Model, random: &mut Random, flags: &[u8]) -> Option<()> {
     let code = one(model, random)?;
-    model.row(code).flags |= random.between(1, 3) as u8;
+    model.row(code).flags |= random.pick(flags)?;
+    Some(())
+}
+
+/// The two have changed places.
+pub fn break_order(model: &mut Model, random: &mut Random) -> Option<()> {
+    one(model, random)?;
+    let [acknowledge, probe] = [ACKNOWLEDGE, PROBE].map(|code| model.operation(Code::Local(code)));
+    model.operations.swap(acknowledge?.0, probe?.0);
     Some(())
 }
 

@@ -326,10 +326,6 @@ fn without_edition(random: &mut Random) -> Option<Wrong> {
 fn not_valid(rule: usize, random: &mut Random) -> Option<Wrong> {
     let model = broken::rows(rule, random)?;
     let fault = first_fault(&model.octets())?;
-    if fault.open {
-        let text = Text::new(&model, true, None, random);
-        return Some(Wrong { text: text.octets(), line: 0, reasons: Vec::new() });
-    }
     let (entry, reasons) = match fault.place {
         Place::Entry(part, index) => ((part, index), vec![fault.says]),
         _ => {

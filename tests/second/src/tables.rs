@@ -76,7 +76,7 @@ pub fn run(tabcheck: &str, tabmake: &str, seed: u64, count: usize) -> Result<(St
 
 /// The first difference between a program's answers and this one's.
 fn difference(programs: &Programs, batch: &[(usize, Case)]) -> Result<Option<String>, String> {
-    let is_check = |case: &Case| matches!((&case.question, &case.expected), (Question::Check(_), Expected::Says(_)));
+    let is_check = |case: &Case| matches!(case.question, Question::Check(_));
     let checks: Vec<&Case> = batch.iter().map(|(_, case)| case).filter(|case| is_check(case)).collect();
     let all_right = programs.checks_all(&checks)?;
     for (table, case) in batch.iter().filter(|(_, case)| !all_right || !is_check(case)) {
@@ -156,13 +156,7 @@ impl Draw {
         let (old, new) = extension::asked(number % ANSWERS.len(), &mut self.random);
         let (answer, lines) = extension::answer((OLD, &old), (NEW, &new));
         self.answers.add(answer);
-        let open =
-            [(OLD, &old), (NEW, &new)].into_iter().find_map(|(name, octets)| Some((name, first_fault(octets)?.open)));
-        let expected = match open {
-            Some((name, true)) => Expected::NotValid(name),
-            _ => Expected::Says(lines),
-        };
-        Case { question: Question::Extends(old, new), expected }
+        Case { question: Question::Extends(old, new), expected: Expected::Says(lines) }
     }
 
     /// One line of numbers; false if something was never met.
@@ -198,9 +192,7 @@ pub fn verdict(name: &str, octets: &[u8]) -> String {
 /// `tabcheck` of a table, valid or not.
 fn check(octets: Vec<u8>) -> Case {
     let lines = verdict(TABLE, &octets);
-    let open = first_fault(&octets).is_some_and(|fault| fault.open);
-    let expected = if open { Expected::NotValid(TABLE) } else { Expected::Says(lines) };
-    Case { question: Question::Check(octets), expected }
+    Case { question: Question::Check(octets), expected: Expected::Says(lines) }
 }
 
 /// A text that is not too long, now and then as long as it may be, or without the last line's end.

@@ -31,11 +31,6 @@ fn lines_agree() {
     let mut rest = &said[..];
     for (name, octets) in tables {
         let lines = match first_fault(&octets) {
-            // How a rule of probe or acknowledge is told is open.
-            Some(fault) if fault.open => match rest.split_inclusive('\n').next() {
-                Some(told) if told.starts_with(&format!("{name}: ")) => told.to_string(),
-                _ => fault.line(&name),
-            },
             Some(fault) => fault.line(&name),
             None => listing(&name, &octets).expect("a table without a fault is valid"),
         };

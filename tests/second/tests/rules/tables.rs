@@ -97,6 +97,54 @@ t: child pair 0: second index is 9, expected below 3
 }
 
 #[test]
+fn faults_of_probe_and_acknowledge_are_worded_and_ordered() {
+    let operations = [(-2, 4, 0x02, 0x02, 3), (-3, 5, 0x30, 0, 1), (-3, 3, 0, 0, 0)];
+    let mut table = model(&operations, &[], &[], &[]);
+    let mut lines = Vec::new();
+    let mut fault = |table: &Model| lines.push(verdict("t", &table.octets()));
+    for (at, argument) in [(0, 0x30), (1, 0x02)] {
+        fault(&table);
+        table.operations[at].class = 1;
+        fault(&table);
+        table.operations[at].argument = argument;
+        fault(&table);
+        table.operations[at].flags &= 2;
+        fault(&table);
+        table.operations[at].result = 0x0A;
+        table.operations[at].flags |= 2;
+        fault(&table);
+        table.operations[at].flags = 0;
+    }
+    fault(&table);
+    table.operations.swap(0, 1);
+    fault(&table);
+    table.operations[2] = table.operations[0];
+    fault(&table);
+    table.operations.swap(0, 1);
+    table.operations.truncate(1);
+    fault(&table);
+    table.operations[0].code = Code::Local(-3);
+    fault(&table);
+    let expected = "t: operation 0: class is 4, expected 1 or 2 for code -2 (probe)
+t: operation 0: argument type is 02, expected 30 for code -2 (probe)
+t: operation 0: argument is optional, expected not optional for code -2 (probe)
+t: operation 0: result type is 02, expected 0a for code -2 (probe)
+t: operation 0: result is optional, expected not optional for code -2 (probe)
+t: operation 1: class is 5, expected 1 or 2 for code -3 (acknowledge)
+t: operation 1: argument type is 30, expected 02 for code -3 (acknowledge)
+t: operation 1: argument is optional, expected not optional for code -3 (acknowledge)
+t: operation 1: result type is 00, expected 0a for code -3 (acknowledge)
+t: operation 1: result is optional, expected not optional for code -3 (acknowledge)
+t: operation 1: codes do not rise
+t: operation 2: class is 3, expected 1 or 2 for code -3 (acknowledge)
+t: operation 2: codes do not rise
+t: operation 0: code -2 (probe) needs an operation with code -3 (acknowledge)
+t: operation 0: argument type is 30, expected 02 for code -3 (acknowledge)
+";
+    assert_eq!(lines.concat(), expected);
+}
+
+#[test]
 fn texts_say_what_listings_say() {
     let kiosk = "my.table: valid, 34 octets
   operation 0: code 7, class 2 (asynchronous, result or error), argument 02, result 02
@@ -152,20 +200,17 @@ fn extensions_are_worded_and_agree_with_the_rule() {
 #[test]
 fn wrong_texts_name_a_line_of_theirs() {
     let mut random = Random::new(4);
-    let (mut reasons, mut open) = (BTreeSet::new(), 0);
+    let mut reasons = BTreeSet::new();
     for way in spoiled::ways() {
         for _ in 0..60 {
             let wrong = spoiled::wrong(way, &mut random);
             let lines = wrong.text.split(|&octet| octet == b'\n').count();
             let too_long = wrong.text.len() > 65_536;
-            assert!(wrong.line < lines && (wrong.line == 0 || !too_long), "{way}");
-            assert_eq!(wrong.reasons.is_empty(), wrong.line == 0, "{way}");
-            open += usize::from(wrong.line == 0 && !too_long);
+            assert!(wrong.line < lines && (wrong.line == 0) == too_long, "{way}");
+            assert_eq!(wrong.reasons.is_empty(), too_long, "{way}");
             reasons.extend(wrong.reasons);
         }
     }
-    // How a rule of probe or acknowledge is told is open; few others meet one.
-    assert!((5 * 60..8 * 60).contains(&open), "{open}");
     for reason in ["':'", "','", "'code'", "'class'", "'argument'", "'result'", "'parameter'", "'operation'"] {
         assert!(reasons.contains(&format!("expected {reason}")), "{reason}");
     }
@@ -182,7 +227,6 @@ fn right(case: &Case) -> Got {
     };
     match &case.expected {
         Expected::Says(lines) => Got { said: lines.clone().into_bytes(), ..Got::default() },
-        Expected::NotValid(name) => Got { said: format!("{name}: wrong\n").into_bytes(), ..Got::default() },
         Expected::Makes(octets) => Got { out: Some(octets.clone()), ..Got::default() },
         Expected::Refuses(lines) => {
             let line = lines.last().cloned().unwrap_or("too long".to_string());
@@ -205,7 +249,7 @@ fn differences_are_found() {
         let too_long = matches!(&case.expected, Expected::Refuses(lines) if lines.is_empty());
         let finds = [&said, &complained, &made, &none].map(|got| !case.agrees(got));
         let expected = match case.expected {
-            Expected::Says(_) | Expected::NotValid(_) => [true, true, false, false],
+            Expected::Says(_) => [true, true, false, false],
             Expected::Makes(_) => [false, true, true, true],
             Expected::Refuses(_) => [false, !too_long, true, right.out.is_some()],
         };
