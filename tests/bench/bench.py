@@ -101,7 +101,7 @@ def nested(octets, deep, around=element):
 
 T = bytes.fromhex("00010010000100180001001E000000220000000702020200000000010000" "00000000")
 WIDE = table([(7, 2, 0x30, 0x30, 3)])
-FULL = table([(i - 32, 2, 2, 2, 3) for i in range(64)], [(i - 32, 2, 1) for i in range(64)],
+FULL = table([(i - 96, 2, 2, 2, 3) for i in range(64)], [(i - 32, 2, 1) for i in range(64)],
              [(i // 4, i % 4 * 16) for i in range(256)], [(i // 4, i % 4 * 16) for i in range(256)])
 KIOSK = table([(7, 2, 2, 2, 2)], [(1, 0, 0)], [(0, 0)])
 P2 = bytes.fromhex("A20B020105300602010702 0100".replace(" ", ""))
@@ -148,8 +148,8 @@ def cases():
                frame(RECEIVE, bytes.fromhex("A109 02010C 0201FD 020101".replace(" ", "")), 528))
     yield case("result of 512 octets, 8 of 512 octets kept", PROBED, kept_state(largest, peer=[(9, 7)]),
                frame(RESULT, element(4, bytes(494)), 4096, 9))
-    records = [(i, i - 32) for i in range(32)]
-    answer = bytes.fromhex("A20B02011F30060201FF02010C")
+    records = [(i, i - 96) for i in range(32)]
+    answer = bytes.fromhex("A20B02011F30060201BF02010C")
     yield case("32 + 32 records, full table: receive a result", FULL, state(own=records, peer=records), frame(RECEIVE, answer, 11))
     yield case("by name: invoke", NAMED, named_state(own=[(4, NAME)]), frame(INVOKE, b"\x03" + NAME + b"\x02\x01\x03", 64, 5, detail=2))
     yield case("by name: receive a result", NAMED, named_state(own=[(5, NAME)]),
