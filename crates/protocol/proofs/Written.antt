@@ -95,32 +95,20 @@ module _ (T : List ℕ) (s : Held) (i : ℕ) (c : Code) (h : Steady T s) (form :
       go true = refl
       go false = refl
 
--- the other side stays
-pub own-beside : (T : List ℕ) (s : Held) (i : ℕ) (c : Code) → ownRecords (withPeer T s i c) ≡ ownRecords s
-own-beside T s i c = go (isSilent T c)
-  where
-    go : (b : Bool) → ownRecords (cond b s (inState s (addPeer (s .state) (record { 0 = i }) c))) ≡ ownRecords s
-    go true = refl
-    go false = refl
+-- what a record more does not change stays, also where none is added
+stays : {A : Type 0} (f : Held → A) (b : Bool) {s t : Held} → f t ≡ f s → f (cond b s t) ≡ f s
+stays f true e = refl
+stays f false e = e
 
-pub peer-beside : (T : List ℕ) (s : Held) (i : ℕ) (c : Code) → peerRecords (withOwn T s i c) ≡ peerRecords s
-peer-beside T s i c = go (isSilent T c)
-  where
-    go : (b : Bool) → peerRecords (cond b s (inState s (addOwn (s .state) (record { 0 = i }) c))) ≡ peerRecords s
-    go true = refl
-    go false = refl
+module _ (T : List ℕ) (s : Held) (i : ℕ) (c : Code) where
+  pub own-beside : ownRecords (withPeer T s i c) ≡ ownRecords s
+  own-beside = stays ownRecords (isSilent T c) refl
 
--- and the kept answers stay
-pub kept-beside-peer : (T : List ℕ) (s : Held) (i : ℕ) (c : Code) → keptAnswers (withPeer T s i c) ≡ keptAnswers s
-kept-beside-peer T s i c = go (isSilent T c)
-  where
-    go : (b : Bool) → keptAnswers (cond b s (inState s (addPeer (s .state) (record { 0 = i }) c))) ≡ keptAnswers s
-    go true = refl
-    go false = refl
+  pub peer-beside : peerRecords (withOwn T s i c) ≡ peerRecords s
+  peer-beside = stays peerRecords (isSilent T c) refl
 
-pub kept-beside-own : (T : List ℕ) (s : Held) (i : ℕ) (c : Code) → keptAnswers (withOwn T s i c) ≡ keptAnswers s
-kept-beside-own T s i c = go (isSilent T c)
-  where
-    go : (b : Bool) → keptAnswers (cond b s (inState s (addOwn (s .state) (record { 0 = i }) c))) ≡ keptAnswers s
-    go true = refl
-    go false = refl
+  pub kept-beside-peer : keptAnswers (withPeer T s i c) ≡ keptAnswers s
+  kept-beside-peer = stays keptAnswers (isSilent T c) refl
+
+  pub kept-beside-own : keptAnswers (withOwn T s i c) ≡ keptAnswers s
+  kept-beside-own = stays keptAnswers (isSilent T c) refl
