@@ -8,7 +8,7 @@ use crate::generate::Generator;
 use crate::model::Model;
 use crate::probe_days;
 use crate::random::Random;
-use crate::slips::SLIPS;
+use crate::slips::{SLIPS, Slip};
 use crate::state::State;
 use crate::ways;
 
@@ -147,22 +147,27 @@ fn plain(seed: u64, sort: usize) -> Drawn {
     drawn(PLAIN[sort], Some(RIGHT), &mut end)
 }
 
+/// The slip as soon as it can be made, in so many tries, and more behind it where the day goes on.
+fn slip_in(end: &mut Generator<'_>, slip: Slip, tries: usize, behind: usize, wait: fn(&mut Generator<'_>)) {
+    for _ in 0..tries {
+        match slip(end) {
+            Some(true) => {
+                end.live_on(behind);
+                return;
+            }
+            Some(false) => return,
+            None => wait(end),
+        }
+    }
+}
+
 fn slipped(seed: u64, sort: usize) -> Drawn {
     let (name, way, slip) = SLIPS[sort];
     let mut end = end(seed);
     let late = end.random.percent(5);
     let (before, behind) = (if late { 400 } else { end.random.below(20) }, end.random.below(12));
     end.live_on(before);
-    for _ in 0..60 {
-        match slip(&mut end) {
-            Some(true) => {
-                end.live_on(behind);
-                break;
-            }
-            Some(false) => break,
-            None => end.live_on(1),
-        }
-    }
+    slip_in(&mut end, slip, 60, behind, |end| end.live_on(1));
     drawn(name, Some(way), &mut end)
 }
 
@@ -172,16 +177,7 @@ fn slipped_probe(seed: u64, sort: usize) -> Drawn {
     let mut end = Generator::of_a_day(seed, probed);
     let (rounds, behind) = (end.random.between(1, 10), end.random.below(8));
     end.probe_day(rounds);
-    for _ in 0..20 {
-        match slip(&mut end) {
-            Some(true) => {
-                end.live_on(behind);
-                break;
-            }
-            Some(false) => break,
-            None => end.probe_day(1),
-        }
-    }
+    slip_in(&mut end, slip, 20, behind, |end| end.probe_day(1));
     drawn(name, Some(way), &mut end)
 }
 

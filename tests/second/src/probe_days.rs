@@ -9,11 +9,9 @@ use crate::kept::OCTETS;
 use crate::model::OperationRow;
 use crate::octets;
 use crate::probe::{self, ACKNOWLEDGE, PROBE};
+use crate::slips::Slip;
 use crate::state::State;
 use crate::values::{element_in_form, indefinite};
-
-/// Puts in an entry that differs, if the state reached allows it; whether the day then goes on.
-type Slip = fn(&mut Generator<'_>) -> Option<bool>;
 
 /// What is put in, the way in which it differs, and how it is done.
 pub(crate) const SLIPS: &[(&str, &str, Slip)] = &[

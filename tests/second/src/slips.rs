@@ -15,7 +15,7 @@ use crate::state::{Record, State};
 use crate::values::{self, element, element_in_form, indefinite};
 
 /// Puts in an entry that differs, if the state reached and the last entry allow it; whether the day then goes on.
-type Slip = fn(&mut Generator<'_>) -> Option<bool>;
+pub(crate) type Slip = fn(&mut Generator<'_>) -> Option<bool>;
 
 /// What is put in, the way in which it differs, and how it is done.
 pub(crate) const SLIPS: &[(&str, &str, Slip)] = &[
