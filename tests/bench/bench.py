@@ -19,8 +19,8 @@ import tempfile
 
 HERE = pathlib.Path(__file__).resolve().parent
 TOP = HERE.parent.parent
-DRIVE = str(TOP / "target/bin/drive")
-REPLAY = str(TOP / "target/bin/replay")
+DRIVE = str(TOP / "crates/drive/out/drive")
+REPLAY = str(TOP / "crates/replay/out/replay")
 SECOND = str(TOP / "tests/second/target/release/second")
 TABLE, STATE, RECEIVE, INVOKE, RESULT, ERROR, REJECT, FORGET = range(8)
 
@@ -259,8 +259,8 @@ def picture(rows):
 def arguments():
     parser = argparse.ArgumentParser(description=__doc__, formatter_class=argparse.RawDescriptionHelpFormatter)
     parser.add_argument("word", nargs="?", default="", help="only cases whose name contains it; no picture is written then")
-    parser.add_argument("--drive", default=DRIVE, metavar="PATH", help="the drive to measure in place of target/bin/drive")
-    parser.add_argument("--replay", default=REPLAY, metavar="PATH", help="the replay to measure in place of target/bin/replay")
+    parser.add_argument("--drive", default=DRIVE, metavar="PATH", help="the drive to measure in place of crates/drive/out/drive")
+    parser.add_argument("--replay", default=REPLAY, metavar="PATH", help="the replay to measure in place of crates/replay/out/replay")
     return parser.parse_args()
 
 

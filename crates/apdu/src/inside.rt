@@ -9,6 +9,7 @@ use ber::element::{Frame, frame_of, well_formed};
 use records::State;
 
 // The frame of octets that are exactly one element.
+#[tactic(auto, unfolding(crate::specs::Inside::only_frame))]
 fn only_frame(s: &[u8]) -> Frame
     ensures { result ≡ only_frame s.now }
 {
@@ -19,6 +20,7 @@ fn only_frame(s: &[u8]) -> Frame
 }
 
 // The contents of octets that are exactly one element with the identifier; else no octets.
+#[tactic(auto, using(crate::proofs::InsideAnswers::inside_none, crate::proofs::InsideAnswers::inside_other))]
 pub fn inside(identifier: u8, s: &[u8]) -> &[u8]
     ensures { result.now ≡ inside identifier s.now }
 {
@@ -34,6 +36,7 @@ pub fn inside(identifier: u8, s: &[u8]) -> &[u8]
 }
 
 // The id that octets are, exactly one 02 of 1 to 4 content octets.
+#[tactic(auto, using(crate::proofs::InsideAnswers::id_none, crate::proofs::InsideAnswers::id_framed))]
 pub fn id_in(s: &[u8]) -> Number
     ensures { result ≡ id_in s.now }
 {

@@ -1,4 +1,6 @@
 // The four APDUs: what a received one says, and the octets of one to send.
+#![tactic(auto)]
+
 pub mod encode;
 mod field;
 pub mod inside;
@@ -9,56 +11,56 @@ use codes::Code;
 use records::{OwnId, PeerId};
 
 // A number that may be missing: an id, or a linked id.
-#[derive(Drop)]
+#[derive(Clone, Copy)]
 pub enum Number {
     Of(u32),
     Absent,
 }
 
 // A linked id of a received Invoke names an invocation that this end made.
-#[derive(Drop)]
+#[derive(Clone, Copy)]
 pub enum OwnLink {
     To(OwnId),
     Absent,
 }
 
 // A linked id of an invoke request names an invocation that this end received.
-#[derive(Drop)]
+#[derive(Clone, Copy)]
 pub enum PeerLink {
     To(PeerId),
     Absent,
 }
 
 // A received code. Other: an 02 over four octets or a 06 over 16, which equals no table code.
-#[derive(Drop)]
+#[derive(Clone, Copy)]
 pub enum CodeField {
     Is(Code),
     Other,
 }
 
 // The octets from `at` up to `end` of the lent APDU.
-#[derive(Drop)]
+#[derive(Clone, Copy)]
 pub struct Span {
     pub at: usize,
     pub end: usize,
 }
 
 // A value: its whole element.
-#[derive(Drop)]
+#[derive(Clone, Copy)]
 pub enum Value {
     At(Span),
     Absent,
 }
 
 // What a result holds behind its id: a code and its value, or nothing.
-#[derive(Drop)]
+#[derive(Clone, Copy)]
 pub enum Body {
     Of { code: CodeField, value: Span },
     Absent,
 }
 
 // What a received APDU says, with places in the lent octets and each id by its side.
-#[derive(Drop)]
+#[derive(Clone, Copy)]
 pub enum Parsed {
     // Not well formed, with the first fault there.
     BadlyStructured {

@@ -17,6 +17,7 @@ use ber::element::{Finding, Frame, finding_in, frame_of};
 use records::{OwnId, PeerId, State};
 
 // A1, behind the id.
+#[tactic(auto, unfolding(crate::specs::Reading::read_parsed, crate::specs::Steps::behind_linked, crate::specs::Steps::read_coded, crate::specs::Parse::invoke_with))]
 fn invoke(s: &[u8], id: PeerId, at: usize, end: usize) -> Parsed
     ensures { read_parsed s.now result ≡ invoke_in id.0 (part_of s.now at end) }
 {
@@ -35,6 +36,7 @@ fn invoke(s: &[u8], id: PeerId, at: usize, end: usize) -> Parsed
 }
 
 // What 30 holds: a code and exactly one value.
+#[tactic(auto, unfolding(crate::specs::Reading::read_parsed, crate::specs::Steps::read_coded, crate::specs::Parse::result_with, crate::specs::Reading::read_value, crate::specs::Reading::read_body))]
 fn result_with(id: OwnId, c: Coded) -> Parsed
     ensures { (s : List ℕ) → read_parsed s result ≡ result_with id.0 (read_coded s c) }
 {
@@ -51,6 +53,7 @@ fn result_with(id: OwnId, c: Coded) -> Parsed
 }
 
 // A2, behind the id: nothing, or 30 alone.
+#[tactic(auto, using(crate::proofs::ParseAnswers::result_none, crate::proofs::ParseAnswers::result_frameless, crate::proofs::ParseAnswers::result_other, crate::proofs::ParseAnswers::result_body), unfolding(crate::specs::Reading::read_parsed, crate::specs::Reading::read_body))]
 fn result(s: &[u8], id: OwnId, at: usize, end: usize) -> Parsed
     ensures { read_parsed s.now result ≡ guarded (levels - 1) (mistyped (Of id.0)) (result_behind id.0) (part_of s.now at end) }
 {
@@ -76,6 +79,7 @@ fn result(s: &[u8], id: OwnId, at: usize, end: usize) -> Parsed
 }
 
 // A3, behind the id.
+#[tactic(auto, unfolding(crate::specs::Reading::read_parsed, crate::specs::Steps::read_coded, crate::specs::Parse::error_behind))]
 fn error(s: &[u8], id: OwnId, at: usize, end: usize) -> Parsed
     ensures { read_parsed s.now result ≡ error_behind id.0 (coded_in (levels - 1) (part_of s.now at end)) }
 {
@@ -86,6 +90,7 @@ fn error(s: &[u8], id: OwnId, at: usize, end: usize) -> Parsed
 }
 
 // A1 to A3, behind what should be their id.
+#[tactic(auto, using(crate::proofs::ParseAnswers::behind_invoke, crate::proofs::ParseAnswers::behind_result, crate::proofs::ParseAnswers::behind_error, crate::proofs::ParseAnswers::behind_no_id), unfolding(crate::specs::Reading::read_parsed))]
 fn behind_id(s: &[u8], first: u8, n: Number, at: usize, end: usize) -> Parsed
     ensures { read_parsed s.now result ≡ guarded (levels - 1) (mistyped n) (behind_id first n) (part_of s.now at end) }
 {
@@ -103,6 +108,7 @@ fn behind_id(s: &[u8], first: u8, n: Number, at: usize, end: usize) -> Parsed
     }
 }
 
+#[tactic(auto, using(crate::proofs::ParseAnswers::id_other, crate::proofs::ParseAnswers::id_first), unfolding(crate::specs::Reading::read_parsed))]
 fn with_id(s: &[u8], first: u8, at: usize, end: usize) -> Parsed
     ensures { read_parsed s.now result ≡ guarded (levels - 1) (mistyped (id_in s.now (field_at s.now at end))) (with_id first) (part_of s.now at end) }
 {
@@ -119,6 +125,7 @@ fn with_id(s: &[u8], first: u8, at: usize, end: usize) -> Parsed
     }
 }
 
+#[tactic(auto, using(crate::proofs::KindAnswers::kind_low, crate::proofs::KindAnswers::kind_high, crate::proofs::KindAnswers::kind_with, crate::proofs::KindAnswers::kind_reject), unfolding(crate::specs::Reading::read_parsed))]
 fn by_kind(s: &[u8], first: u8, at: usize, end: usize) -> Parsed
     ensures { Reading s.now (makes_element (inside_of (levels - 1)) first (part s.now at end)) result (by_kind first (fields (levels - 1) (part_of s.now at end))) }
 {
@@ -135,6 +142,7 @@ fn by_kind(s: &[u8], first: u8, at: usize, end: usize) -> Parsed
 }
 
 // What was read, if the octets are well formed; else where they are at fault.
+#[tactic(auto, using(crate::proofs::KindAnswers::judged_by), unfolding(crate::specs::Steps::judge, crate::specs::Reading::read_parsed))]
 fn judged(apdu: &[u8], r: Parsed) -> Parsed
     ensures { read_parsed apdu.now result ≡ judge (finding_in levels apdu.now) (read_parsed apdu.now r) }
 {
@@ -146,6 +154,7 @@ fn judged(apdu: &[u8], r: Parsed) -> Parsed
 }
 
 // What was read, of octets that may not be well formed where fields are wrong: only then are they walked once more.
+#[tactic(auto, using(crate::proofs::KindAnswers::settled_mistyped, crate::proofs::KindAnswers::settled_unrecognized, crate::proofs::KindAnswers::settled_other))]
 fn settled(apdu: &[u8], r: Parsed) -> Parsed
     ensures { read_parsed apdu.now result ≡ settle (finding_in levels apdu.now) (read_parsed apdu.now r) }
 {
@@ -157,6 +166,7 @@ fn settled(apdu: &[u8], r: Parsed) -> Parsed
 }
 
 // What the lent octets say, with places in them. The fields are checked as they are read, so that right octets are looked at once.
+#[tactic(auto, using(crate::proofs::KindAnswers::parse_frameless, crate::proofs::KindAnswers::parse_framed), unfolding(crate::specs::Reading::read_parsed))]
 pub fn parse(apdu: &[u8]) -> Parsed
     ensures { read_parsed apdu.now result ≡ parse apdu.now }
 {
@@ -167,6 +177,7 @@ pub fn parse(apdu: &[u8]) -> Parsed
 }
 
 // The value beside a result's code, if there is one.
+#[tactic(auto, unfolding(crate::specs::Reading::read_value, crate::specs::Reading::read_body))]
 pub fn body_value(body: Body) -> Value
     ensures { (x : List ℕ) → read_value x result ≡ body_value (read_body x body) }
 {

@@ -14,6 +14,7 @@ use ber::element::Frame;
 use records::{OwnId, PeerId, State};
 
 // The highest problem number of a kind, 80 to 83.
+#[tactic(auto, unfolding(crate::specs::Parse::most_problem))]
 fn most_problem(kind: u8) -> u8
     ensures { result ≡ most_problem kind }
 {
@@ -26,6 +27,7 @@ fn most_problem(kind: u8) -> u8
     2
 }
 
+#[tactic(auto, using(crate::proofs::RejectAnswers::problem_low, crate::proofs::RejectAnswers::problem_high))]
 fn is_problem(kind: u8, c: &[u8]) -> bool
     ensures { result ≡ is_problem kind c.now }
 {
@@ -42,6 +44,7 @@ fn is_problem(kind: u8, c: &[u8]) -> bool
 }
 
 // Whether an id, or what stands in its place under its identifier, goes with a problem of this kind.
+#[tactic(auto, unfolding(crate::specs::Parse::id_allowed))]
 fn id_allowed(n: Number, identifier: u8, kind: u8) -> bool
     ensures { result ≡ id_allowed n identifier kind }
 {
@@ -57,6 +60,7 @@ fn id_allowed(n: Number, identifier: u8, kind: u8) -> bool
 }
 
 // A4: an id, or none, and a problem, by its kind.
+#[tactic(auto, using(crate::proofs::RejectAnswers::reject_as), unfolding(crate::specs::Reading::read_parsed))]
 fn reject_of(n: Number, kind: u8, problem: u8) -> Parsed
     requires { RejectRight n kind }
     ensures { (s : List ℕ) → read_parsed s result ≡ reject n kind problem }
@@ -94,6 +98,7 @@ fn reject_of(n: Number, kind: u8, problem: u8) -> Parsed
 }
 
 // A4: an id, or what stands in its place under its identifier, and a problem.
+#[tactic(auto, using(crate::proofs::RejectAnswers::problem_length, crate::proofs::RejectAnswers::reject_allowed, crate::proofs::RejectAnswers::reject_right, crate::proofs::RejectAnswers::reject_problem, crate::proofs::RejectAnswers::reject_id), unfolding(crate::specs::Reading::read_parsed))]
 fn reject_with(n: Number, identifier: u8, kind: u8, c: &[u8]) -> Parsed
     ensures { (s : List ℕ) → read_parsed s result ≡ reject_with n identifier kind c.now }
 {
@@ -106,6 +111,7 @@ fn reject_with(n: Number, identifier: u8, kind: u8, c: &[u8]) -> Parsed
 }
 
 // A4, behind the id or what stands in its place: one problem fills what is left.
+#[tactic(auto, using(crate::proofs::RejectAnswers::behind_other, crate::proofs::RejectAnswers::behind_more, crate::proofs::RejectAnswers::behind_one), unfolding(crate::specs::Reading::read_parsed))]
 fn reject_behind(s: &[u8], n: Number, identifier: u8, at: usize, end: usize) -> Parsed
     ensures { read_parsed s.now result ≡ guarded (levels - 1) (mistyped Absent) (reject_behind n identifier) (part_of s.now at end) }
 {
@@ -124,6 +130,7 @@ fn reject_behind(s: &[u8], n: Number, identifier: u8, at: usize, end: usize) -> 
     }
 }
 
+#[tactic(auto, using(crate::proofs::RejectAnswers::reject_other, crate::proofs::RejectAnswers::reject_wrong, crate::proofs::RejectAnswers::reject_first), unfolding(crate::specs::Reading::read_parsed))]
 pub(crate) fn reject(s: &[u8], at: usize, end: usize) -> Parsed
     ensures { read_parsed s.now result ≡ guarded (levels - 1) (mistyped Absent) reject_of (part_of s.now at end) }
 {

@@ -1,4 +1,6 @@
 // A day's capture: whether octets are a valid one, and its entries: document 02, request One.
+#![tactic(auto)]
+
 ghost use Rattle.std.specs.Prelude.{◌≡◌, ◌<◌};
 ghost use Rattle.capture.specs.Format.{count, valid};
 ghost use Rattle.capture.specs.Entry.{entry_at, octets_at, following, side_of, id_of};
@@ -18,7 +20,7 @@ pub const MOST_OCTETS: usize = 60_000;
 pub const MOST_ENTRIES: usize = 1_000;
 
 // What an entry is. Nothing: there is no such entry, or its kind is none of these.
-#[derive(Drop)]
+#[derive(Clone, Copy)]
 pub enum Kind {
     Received,
     Sent,
@@ -27,7 +29,7 @@ pub enum Kind {
 }
 
 // An entry: its kind, and its octets as those of the capture from `at` up to `end`.
-#[derive(Drop)]
+#[derive(Clone, Copy)]
 pub struct Entry {
     pub kind: Kind,
     pub at: usize,
@@ -35,13 +37,16 @@ pub struct Entry {
 }
 
 // How many entries the capture says to have.
+#[tactic(auto, unfolding(crate::specs::Format::count))]
 pub fn count(capture: &[u8]) -> usize
-    ensures { (result ≡ count capture.now) × (result < 4294967296) }
+    ensures value { result ≡ count capture.now }
+    ensures fits { result < 4294967296 }
 {
     four(capture, 0) as usize
 }
 
 // Whether octets are a valid capture.
+#[tactic(auto, using(crate::proofs::Answers::too_long, crate::proofs::Answers::header_wrong, crate::proofs::Answers::entries_decide))]
 pub fn valid(capture: &[u8]) -> bool
     ensures { result ≡ valid capture.now }
 {
@@ -55,6 +60,7 @@ pub fn valid(capture: &[u8]) -> bool
 }
 
 // The entry with a number.
+#[tactic(auto, unfolding(crate::specs::Entry::entry_at))]
 pub fn entry_at(capture: &[u8], number: usize) -> Entry
     ensures { result ≡ entry_at capture.now number }
 {
@@ -83,6 +89,7 @@ pub fn octets_at(capture: &[u8], number: usize) -> &[u8]
 }
 
 // The number of the entry behind one; behind the last there is none.
+#[tactic(auto, unfolding(crate::specs::Entry::following))]
 pub fn following(capture: &[u8], number: usize) -> usize
     ensures { result ≡ following capture.now number }
 {

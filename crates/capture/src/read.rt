@@ -6,8 +6,10 @@ ghost use Rattle.capture.specs.Entry.{kind_of};
 use crate::Kind;
 use base::octets::{four, octet, two};
 
+#[tactic(auto, unfolding(crate::specs::Format::data_offset))]
 pub(crate) fn data_offset(capture: &[u8]) -> usize
-    ensures { (result ≡ data_offset capture.now) × (result < 4294967296) }
+    ensures value { result ≡ data_offset capture.now }
+    ensures fits { result < 4294967296 }
 {
     four(capture, 4) as usize
 }

@@ -4,7 +4,7 @@ ghost use Rattle.capture.specs.Entry.{entry_at, octets_at, following};
 
 use crate::{Entry, entry_at, following, octets_at};
 
-#[derive(Drop)]
+#[derive(Clone, Copy)]
 pub struct Reader<'a> {
     pub capture: &'a [u8],
     pub entry: usize,
@@ -12,14 +12,16 @@ pub struct Reader<'a> {
 
 // A reader at an entry of a capture.
 pub fn standing<'a>(capture: &'a [u8], entry: usize) -> Reader<'a>
-    ensures { (result.capture ≡ capture.entry) × (result.entry ≡ entry) }
+    ensures capture { result.capture ≡ capture.entry }
+    ensures entry { result.entry ≡ entry }
 {
     Reader { capture, entry }
 }
 
 // The reader moved on to the next entry.
 pub fn moved_on<'a>(r: Reader<'a>) -> Reader<'a>
-    ensures { (result.capture ≡ r.entry.capture) × (result.entry ≡ following r.entry.capture.now r.entry.entry) }
+    ensures capture { result.capture ≡ r.entry.capture }
+    ensures entry { result.entry ≡ following r.entry.capture.now r.entry.entry }
 {
     let entry = following(r.capture, r.entry);
     Reader {

@@ -6,6 +6,7 @@ ghost use Rattle.capture.specs.Format.{count, size_fits, entry_right, headed, en
 use crate::read::{data_offset, kind, offset, size, zero_octet};
 use crate::{MOST_ENTRIES, count};
 
+#[tactic(auto, unfolding(crate::specs::Format::headed))]
 pub(crate) fn is_headed(capture: &[u8]) -> bool
     ensures { result ≡ headed capture.now }
 {
@@ -23,6 +24,7 @@ pub(crate) fn is_headed(capture: &[u8]) -> bool
     data <= capture.len()
 }
 
+#[tactic(auto, unfolding(crate::specs::Format::size_fits))]
 fn is_size_right(kind: u8, size: u16) -> bool
     ensures { result ≡ size_fits kind size }
 {
@@ -38,6 +40,7 @@ fn is_size_right(kind: u8, size: u16) -> bool
     true
 }
 
+#[tactic(auto, unfolding(crate::specs::Format::entry_right, crate::specs::Format::kind_right, crate::specs::Format::zero_right, crate::specs::Format::size_right))]
 fn is_entry_right(capture: &[u8], entry: usize) -> bool
     requires { entry < 4294967296 }
     ensures { result ≡ entry_right capture.now entry }
@@ -53,6 +56,7 @@ fn is_entry_right(capture: &[u8], entry: usize) -> bool
 }
 
 // Each entry is right, and their data stands end to end to the end.
+#[tactic(auto, using(crate::proofs::Answers::data_end_none, crate::proofs::Answers::data_end_more, crate::proofs::Answers::entry_wrong, crate::proofs::Answers::entry_misplaced, crate::proofs::Answers::entry_placed, crate::proofs::Answers::walk_decides))]
 pub(crate) fn entries_end(capture: &[u8]) -> bool
     ensures { result ≡ (every (entry_right capture.now) (count capture.now) && end_to_end capture.now) }
 {

@@ -1,5 +1,7 @@
 // Codes of operations and errors, local ones and names; how a code stands in an entry of a table, their order, and the search for one by halving:
 // document 01, 'Operation table'; document 02, Two and Five.
+#![tactic(auto)]
+
 mod names;
 pub mod search;
 
@@ -9,7 +11,7 @@ ghost use Rattle.codes.specs.Order.{rank, key_rank, below, same_key};
 ghost use Rattle.codes.specs.Search.{size_of, flags_of, named_by};
 
 // The contents of an OBJECT IDENTIFIER, 1 to 16 octets, in two words, big-endian, with zeros behind.
-#[derive(Drop)]
+#[derive(Clone, Copy)]
 pub struct Name {
     pub length: u8,
     pub high: u64,
@@ -17,7 +19,7 @@ pub struct Name {
 }
 
 // Whether a name has its form, or what is wrong with it first.
-#[derive(Drop)]
+#[derive(Clone, Copy)]
 pub enum Form {
     Right,
     // It has not 1 to 16 octets.
@@ -29,28 +31,28 @@ pub enum Form {
 }
 
 // The code of an operation or of an error: the two's complement bits of a signed 32-bit number, or a name.
-#[derive(Drop)]
+#[derive(Clone, Copy)]
 pub enum Code {
     Local(u32),
     Global(Name),
 }
 
 // How a code stands in an entry: the bits of a local code, or the index of a name.
-#[derive(Drop)]
+#[derive(Clone, Copy)]
 pub struct Key {
     pub named: bool,
     pub number: u32,
 }
 
 // The two kinds of entries that have a code.
-#[derive(Drop)]
+#[derive(Clone, Copy)]
 pub enum Kind {
     Operation,
     Error,
 }
 
 // Where a code stands in its list.
-#[derive(Drop)]
+#[derive(Clone, Copy)]
 pub enum Place {
     At(u16),
     Nowhere,
@@ -70,6 +72,7 @@ impl Form {
 }
 
 impl Code {
+    #[tactic(auto, unfolding(crate::specs::Code::code_right))]
     pub fn is_right(self) -> bool
         ensures { result ≡ code_right self }
     {
@@ -79,6 +82,7 @@ impl Code {
         }
     }
 
+    #[tactic(auto, unfolding(crate::specs::Code::same_code))]
     pub fn same(self, other: Code) -> bool
         ensures { result ≡ same_code self other }
     {
@@ -118,6 +122,7 @@ impl Key {
         self.rank() < other.rank()
     }
 
+    #[tactic(auto, unfolding(crate::specs::Order::same_key))]
     pub(crate) fn same(self, other: Key) -> bool
         ensures { result ≡ same_key self other }
     {

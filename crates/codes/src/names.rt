@@ -8,6 +8,7 @@ use ber::rule::content_rule;
 
 impl Name {
     // The name with these contents; over 16 octets are no name's.
+    #[tactic(auto, unfolding(crate::specs::Code::name_of))]
     pub fn of(contents: &[u8]) -> Self
         ensures { result ≡ name_of contents.now }
     {
@@ -26,6 +27,7 @@ impl Name {
     }
 
     // The 16 octets of the two words.
+    #[tactic(auto, unfolding(crate::specs::Code::name_octets, ber::specs::Header::digits))]
     pub fn octets(self) -> [u8; 16]
         ensures { result ≡ name_octets self }
     {
@@ -51,6 +53,7 @@ impl Name {
         ]
     }
 
+    #[tactic(auto, unfolding(crate::specs::Code::same_name))]
     pub fn same(self, other: Name) -> bool
         ensures { result ≡ same_name self other }
     {
@@ -63,6 +66,7 @@ impl Name {
         self.low == other.low
     }
 
+    #[tactic(auto, unfolding(crate::specs::Code::name_form, crate::specs::Code::name_contents))]
     pub fn form(self) -> Form
         ensures { result ≡ name_form self }
     {
@@ -83,6 +87,7 @@ impl Name {
         Form::Right
     }
 
+    #[tactic(auto, unfolding(crate::specs::Code::name_right))]
     pub fn is_right(self) -> bool
         ensures { result ≡ name_right self }
     {

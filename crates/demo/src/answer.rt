@@ -4,20 +4,28 @@ use apdu::parse::octets_of;
 use apdu::{Body, Number, Span, Value};
 use codes::Code;
 use protocol::{Indication, Reception, Refusal};
-use text::out::{decimal, octets, problem_name};
+use std::io::Write;
+use text::out::{Out, decimal, octets, problem_name};
 
-fn invocation_words(id: u32, operation: Code, name: &[u8], x: &[u8], value: Value) {
-    number(b"invocation ", id);
-    code_words(b" of operation ", operation);
+fn invocation_words(
+    to: &mut Out<impl Write>,
+    id: u32,
+    operation: Code,
+    name: &[u8],
+    x: &[u8],
+    value: Value,
+) {
+    number(to, b"invocation ", id);
+    code_words(to, b" of operation ", operation);
     match value {
         Value::Absent => {
-            say(b", no");
-            say(name);
+            say(to, b", no");
+            say(to, name);
         }
         Value::At(span) => {
-            say(b",");
-            say(name);
-            octets(1, octets_of(x, span));
+            say(to, b",");
+            say(to, name);
+            octets(to, octets_of(x, span));
         }
     }
 }
@@ -30,21 +38,21 @@ fn body_value(body: Body) -> Value {
 }
 
 // The fields of a Reject.
-fn reject_words(words: &[u8], id: Number, kind: u8, problem: u8) {
-    say(words);
+fn reject_words(to: &mut Out<impl Write>, words: &[u8], id: Number, kind: u8, problem: u8) {
+    say(to, words);
     match id {
-        Number::Absent => say(b"no invocation"),
-        Number::Of(n) => number(b"invocation ", n),
+        Number::Absent => say(to, b"no invocation"),
+        Number::Of(n) => number(to, b"invocation ", n),
     }
-    say(b", ");
-    problem_name(1, kind, problem);
+    say(to, b", ");
+    problem_name(to, kind, problem);
 }
 
-fn reject_of(id: u32, kind: u8, problem: u8) {
-    reject_words(b"reject: ", Number::Of(id), kind, problem);
+fn reject_of(to: &mut Out<impl Write>, id: u32, kind: u8, problem: u8) {
+    reject_words(to, b"reject: ", Number::Of(id), kind, problem);
 }
 
-fn indication_words(x: &[u8], said: Indication) {
+fn indication_words(to: &mut Out<impl Write>, x: &[u8], said: Indication) {
     match said {
         Indication::Invoke {
             id,
@@ -52,16 +60,16 @@ fn indication_words(x: &[u8], said: Indication) {
             argument,
             ..
         } => {
-            say(b"invoke: ");
-            invocation_words(id.0, code, b" argument", x, argument);
+            say(to, b"invoke: ");
+            invocation_words(to, id.0, code, b" argument", x, argument);
         }
         Indication::Result {
             id,
             body,
             operation,
         } => {
-            say(b"result: ");
-            invocation_words(id.0, operation, b" value", x, body_value(body));
+            say(to, b"result: ");
+            invocation_words(to, id.0, operation, b" value", x, body_value(body));
         }
         Indication::Error {
             id,
@@ -69,39 +77,39 @@ fn indication_words(x: &[u8], said: Indication) {
             parameter,
             operation,
         } => {
-            code_words(b"error ", code);
-            say(b": ");
-            invocation_words(id.0, operation, b" parameter", x, parameter);
+            code_words(to, b"error ", code);
+            say(to, b": ");
+            invocation_words(to, id.0, operation, b" parameter", x, parameter);
         }
-        Indication::InvokeRejected { id, problem } => reject_of(id.0, 0x81, problem),
-        Indication::ResultRejected { id, problem } => reject_of(id.0, 0x82, problem),
-        Indication::ErrorRejected { id, problem } => reject_of(id.0, 0x83, problem),
-        _ => say(b"another reject"),
+        Indication::InvokeRejected { id, problem } => reject_of(to, id.0, 0x81, problem),
+        Indication::ResultRejected { id, problem } => reject_of(to, id.0, 0x82, problem),
+        Indication::ErrorRejected { id, problem } => reject_of(to, id.0, 0x83, problem),
+        _ => say(to, b"another reject"),
     }
 }
 
 // A refusal's number, the fields of the Reject behind an 18, and why an id that was forgotten is not asked with.
-pub(crate) fn refusal_words(why: Refusal) {
-    number(b"refused with ", why.number() as u32);
+pub(crate) fn refusal_words(to: &mut Out<impl Write>, why: Refusal) {
+    number(to, b"refused with ", why.number() as u32);
     match why {
         Refusal::Rejected { id, .. } => {
             let problem = why.problem();
-            reject_words(b": ", id, problem.kind, problem.number);
+            reject_words(to, b": ", id, problem.kind, problem.number);
         }
-        Refusal::IdResting => say(b": the id rests"),
+        Refusal::IdResting => say(to, b": the id rests"),
         _ => {}
     }
 }
 
 // Where octets that are badly structured are at fault, and what stands there.
-fn place_words(x: &[u8], why: Refusal, place: usize) {
+fn place_words(to: &mut Out<impl Write>, x: &[u8], why: Refusal, place: usize) {
     let problem = why.problem();
     if problem.kind == 0x80 && problem.number == 2 {
-        say(b"\n   the fault is at   octet ");
-        decimal(1, place as u64);
-        say(b":");
+        say(to, b"\n   the fault is at   octet ");
+        decimal(to, place as u64);
+        say(to, b":");
         octets(
-            1,
+            to,
             octets_of(
                 x,
                 Span {
@@ -113,13 +121,18 @@ fn place_words(x: &[u8], why: Refusal, place: usize) {
     }
 }
 
-pub(crate) fn reception_words(x: &[u8], reception: Reception, place: usize) {
+pub(crate) fn reception_words(
+    to: &mut Out<impl Write>,
+    x: &[u8],
+    reception: Reception,
+    place: usize,
+) {
     match reception {
-        Reception::Indicated(said) => indication_words(x, said),
-        Reception::Answered => say(b"an invocation that the library answers itself"),
+        Reception::Indicated(said) => indication_words(to, x, said),
+        Reception::Answered => say(to, b"an invocation that the library answers itself"),
         Reception::Refused(why) => {
-            refusal_words(why);
-            place_words(x, why, place);
+            refusal_words(to, why);
+            place_words(to, x, why, place);
         }
     }
 }

@@ -7,10 +7,11 @@ use ber::header::{Header, header_of};
 use ber::integer::{Integer, integer_of};
 use codes::Code;
 use protocol::{Indication, Reception};
-use text::out::name;
+use std::io::Write;
+use text::out::{Out, name};
 
 // Readings are hundredths of a mg/l; the points without one are counted by their reason.
-#[derive(Drop)]
+#[derive(Clone, Copy)]
 pub(crate) struct Day {
     readings: [u32; 8],
     taken: u32,
@@ -38,45 +39,46 @@ fn plus(a: u32, b: u32) -> u32 {
 }
 
 // Nothing is stored, not even a zero.
-pub(crate) fn with_unknown(mut day: Day) -> Day {
-    say(b"no reading: the answer is not understood");
+pub(crate) fn with_unknown(to: &mut Out<impl Write>, mut day: Day) -> Day {
+    say(to, b"no reading: the answer is not understood");
     day.unknown = plus(day.unknown, 1);
     day
 }
 
 // A value is a reading if it is a number that is not negative, and a place is left for it.
-fn with_value(mut day: Day, element: &[u8]) -> Day {
+fn with_value(to: &mut Out<impl Write>, mut day: Day, element: &[u8]) -> Day {
     let Header::At { start, end, .. } = header_of(element) else {
-        return with_unknown(day);
+        return with_unknown(to, day);
     };
     let Integer::Of(n) = integer_of(octets_of(element, Span { at: start, end })) else {
-        return with_unknown(day);
+        return with_unknown(to, day);
     };
     let k = day.taken;
     if k < 8 && n < 0x8000_0000 {
-        say(b"a reading,");
-        reading(n);
-        say(b" mg/l");
+        say(to, b"a reading,");
+        reading(to, n);
+        say(to, b" mg/l");
         day.readings[k as usize] = n;
         day.taken = k + 1;
         day.sum = plus(day.sum, n);
         return day;
     }
-    with_unknown(day)
+    with_unknown(to, day)
 }
 
 // Nothing is stored: the number in the value picks the words.
-fn said_of_answer(words: &[u8], element: &[u8]) {
-    say(b"nothing: ");
+fn said_of_answer(to: &mut Out<impl Write>, words: &[u8], element: &[u8]) {
+    say(to, b"nothing: ");
     if let Header::At { start, .. } = header_of(element) {
-        name(1, words, octet(element, start) as usize);
+        name(to, words, octet(element, start) as usize);
     }
 }
 
 // Operations -2 and -3 say what became of an invocation or of its answer; the result of another operation is a reading.
-fn with_result(day: Day, operation: Code, element: &[u8]) -> Day {
+fn with_result(to: &mut Out<impl Write>, day: Day, operation: Code, element: &[u8]) -> Day {
     if operation.same(Code::Local(0xFFFF_FFFE)) {
         said_of_answer(
+            to,
             b"the invocation is not answered yet|the invocation is answered, and its answer follows|the controller has no answer to it",
             element,
         );
@@ -84,23 +86,29 @@ fn with_result(day: Day, operation: Code, element: &[u8]) -> Day {
     }
     if operation.same(Code::Local(0xFFFF_FFFD)) {
         said_of_answer(
+            to,
             b"the controller keeps the answer no longer|the controller kept no such answer",
             element,
         );
         return day;
     }
-    with_value(day, element)
+    with_value(to, day, element)
 }
 
 // The record after an answer: a refused one changes nothing.
-pub(crate) fn recorded(mut day: Day, x: &[u8], reception: Reception) -> Day {
+pub(crate) fn recorded(
+    to: &mut Out<impl Write>,
+    mut day: Day,
+    x: &[u8],
+    reception: Reception,
+) -> Day {
     match reception {
         Reception::Refused(_) => {
-            say(b"nothing, since the answer is refused");
+            say(to, b"nothing, since the answer is refused");
             day
         }
         Reception::Answered => {
-            say(b"nothing, since the library answered");
+            say(to, b"nothing, since the library answered");
             day
         }
         Reception::Indicated(said) => match said {
@@ -109,66 +117,69 @@ pub(crate) fn recorded(mut day: Day, x: &[u8], reception: Reception) -> Day {
                 operation,
                 ..
             } => match body {
-                Body::Of { value, .. } => with_result(day, operation, octets_of(x, value)),
+                Body::Of { value, .. } => with_result(to, day, operation, octets_of(x, value)),
                 Body::Absent => {
-                    say(b"no reading: a result without a value is neither a reading nor an error");
+                    say(
+                        to,
+                        b"no reading: a result without a value is neither a reading nor an error",
+                    );
                     day.empty = plus(day.empty, 1);
                     day
                 }
             },
             Indication::Error { code, .. } => {
                 if !code.same(Code::Local(1)) {
-                    return with_unknown(day);
+                    return with_unknown(to, day);
                 }
-                say(b"no reading: below detection, and never a zero");
+                say(to, b"no reading: below detection, and never a zero");
                 day.below = plus(day.below, 1);
                 day
             }
             Indication::InvokeRejected { .. } => {
-                say(b"no reading: the invocation is not understood");
+                say(to, b"no reading: the invocation is not understood");
                 day.unknown = plus(day.unknown, 1);
                 day
             }
-            _ => with_unknown(day),
+            _ => with_unknown(to, day),
         },
     }
 }
 
-fn readings(day: Day) {
+fn readings(to: &mut Out<impl Write>, day: Day) {
     for i in 0..8 {
         if i < day.taken {
-            reading(day.readings[i as usize]);
+            reading(to, day.readings[i as usize]);
         }
     }
 }
 
 // The mean over some points, rounded down to a hundredth.
-fn mean(sum: u32, points: u32) {
+fn mean(to: &mut Out<impl Write>, sum: u32, points: u32) {
     if points == 0 {
-        say(b" none");
+        say(to, b" none");
         return;
     }
-    reading(sum / points);
-    say(b" mg/l");
+    reading(to, sum / points);
+    say(to, b" mg/l");
 }
 
-pub(crate) fn close(day: Day) {
+pub(crate) fn close(to: &mut Out<impl Write>, day: Day) {
     let taken = day.taken;
     let sum = day.sum;
     let missing = plus(plus(day.below, day.empty), day.unknown);
     let points = plus(taken, missing);
-    number(b"\nThe day's record: ", points);
-    number(b" points\n   readings          ", taken);
-    say(b":");
-    readings(day);
-    say(b" mg/l\n   mean             ");
-    mean(sum, taken);
-    number(b"\n   no reading        ", missing);
-    number(b": ", day.below);
-    number(b" below detection, ", day.empty);
-    number(b" without a value, ", day.unknown);
-    number(b" not understood\n   taken for zeros   the ", missing);
-    say(b" missing readings would have made the mean");
-    mean(sum, points);
-    say(b"\n");
+    number(to, b"\nThe day's record: ", points);
+    number(to, b" points\n   readings          ", taken);
+    say(to, b":");
+    readings(to, day);
+    say(to, b" mg/l\n   mean             ");
+    mean(to, sum, taken);
+    number(to, b"\n   no reading        ", missing);
+    number(to, b": ", day.below);
+    number(to, b" below detection, ", day.empty);
+    number(to, b" without a value, ", day.unknown);
+    number(to, b" not understood\n   taken for zeros   the ", missing);
+    say(to, b" missing readings would have made the mean");
+    mean(to, sum, points);
+    say(to, b"\n");
 }

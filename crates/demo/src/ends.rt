@@ -10,7 +10,8 @@ use ber::output::put_octets;
 use codes::{Code, Name};
 use protocol::{Invocation, Outcome, Requested};
 use records::{OwnId, PeerId, State};
-use text::out::octets;
+use std::io::Write;
+use text::out::{Out, octets};
 
 // A table in document 01's layout, a line each: counts and offsets, operations, errors, error pairs.
 // Operation 7, reading: class 2, argument and result of type 02, result optional; error 1, below detection: no parameter.
@@ -36,7 +37,7 @@ const NAMED: [u8; 71] = *b"\
     \x03\x2b\x06\x01\x00\x00\x00\x00\x00\x00\x00\x00\x00\x00\x00\x00\x00";
 
 // What the channel took: one APDU or two, of which the span is the next to arrive.
-#[derive(Drop)]
+#[derive(Clone, Copy)]
 struct Apdu {
     octets: [u8; 32],
     span: Span,
@@ -44,7 +45,7 @@ struct Apdu {
 }
 
 // What the channel took last towards each end, the state and the store of each, and the kiosk's record.
-#[derive(Drop)]
+#[derive(Clone, Copy)]
 pub(crate) struct Site {
     kiosk_store: [u8; State::STORE_OCTETS],
     controller_store: [u8; State::STORE_OCTETS],
@@ -72,13 +73,13 @@ pub(crate) fn opened() -> Site {
     }
 }
 
-fn sent_line(words: &[u8], x: &[u8]) {
+fn sent_line(to: &mut Out<impl Write>, words: &[u8], x: &[u8]) {
     if x.len() == 0 {
         return;
     }
-    say(words);
-    octets(1, x);
-    say(b"\n");
+    say(to, words);
+    octets(to, x);
+    say(to, b"\n");
 }
 
 // Where the first of the APDUs ends that a call wrote; what another library wrote is one APDU.
@@ -90,14 +91,14 @@ fn first_end(x: &[u8]) -> usize {
 }
 
 // What the channel holds after a call: the octets that the call wrote, or the same as before.
-fn sent(words: &[u8], before: Apdu, out: &[u8], written: usize) -> Apdu {
+fn sent(to: &mut Out<impl Write>, words: &[u8], before: Apdu, out: &[u8], written: usize) -> Apdu {
     if written == 0 {
         return before;
     }
     let x = between(out, 0, written);
     let end = first_end(x);
-    sent_line(words, between(x, 0, end));
-    sent_line(words, between(x, end, written));
+    sent_line(to, words, between(x, 0, end));
+    sent_line(to, words, between(x, end, written));
     let mut octets = [0u8; 32];
     put_octets(&mut octets, 0, x);
     Apdu {
@@ -118,22 +119,35 @@ fn arrived(mut apdu: Apdu) -> Apdu {
 }
 
 // The same after a request, which sends nothing where it is refused.
-fn requested(words: &[u8], before: Apdu, out: &[u8], r: Requested) -> Apdu {
+fn requested(
+    to: &mut Out<impl Write>,
+    words: &[u8],
+    before: Apdu,
+    out: &[u8],
+    r: Requested,
+) -> Apdu {
     let outcome = r.outcome;
     match outcome {
-        Outcome::Accepted => sent(words, before, out, r.written),
+        Outcome::Accepted => sent(to, words, before, out, r.written),
         Outcome::Refused(why) => {
-            say(words);
-            say(b" nothing: ");
-            refusal_words(why);
-            say(b"\n");
+            say(to, words);
+            say(to, b" nothing: ");
+            refusal_words(to, why);
+            say(to, b"\n");
             before
         }
     }
 }
 
 // The kiosk invokes an operation.
-pub(crate) fn invoke(mut site: Site, table: &[u8], id: u32, code: Code, argument: &[u8]) -> Site {
+pub(crate) fn invoke(
+    to: &mut Out<impl Write>,
+    mut site: Site,
+    table: &[u8],
+    id: u32,
+    code: Code,
+    argument: &[u8],
+) -> Site {
     let mut out = [0u8; 32];
     let state = site.kiosk;
     let store = site.kiosk_store;
@@ -149,7 +163,7 @@ pub(crate) fn invoke(mut site: Site, table: &[u8], id: u32, code: Code, argument
         &mut out,
     );
     let next = r.state;
-    let apdu = requested(b"   kiosk sends      ", before, &out, r);
+    let apdu = requested(to, b"   kiosk sends      ", before, &out, r);
     site.kiosk = next;
     site.to_controller = apdu;
     site
@@ -159,13 +173,14 @@ pub(crate) fn invoke(mut site: Site, table: &[u8], id: u32, code: Code, argument
 pub(crate) const PROBE: [u8; 3] = *b"\x02\x01\x03";
 
 // The kiosk invokes operation 7.
-pub(crate) fn ask_alone(site: Site, id: u32) -> Site {
-    invoke(site, &KIOSK, id, Code::Local(7), &PROBE)
+pub(crate) fn ask_alone(to: &mut Out<impl Write>, site: Site, id: u32) -> Site {
+    invoke(to, site, &KIOSK, id, Code::Local(7), &PROBE)
 }
 
 // The same, and the controller receives it.
-pub(crate) fn ask(site: Site, id: u32) -> Site {
-    controller_reads(ask_alone(site, id))
+pub(crate) fn ask(to: &mut Out<impl Write>, site: Site, id: u32) -> Site {
+    let asked = ask_alone(to, site, id);
+    controller_reads(to, asked)
 }
 
 // The operation that has a name.
@@ -174,38 +189,50 @@ fn named() -> Code {
 }
 
 // The kiosk invokes it with its first table, which lacks it.
-pub(crate) fn ask_unlisted(site: Site, id: u32) -> Site {
-    invoke(site, &KIOSK, id, named(), &PROBE)
+pub(crate) fn ask_unlisted(to: &mut Out<impl Write>, site: Site, id: u32) -> Site {
+    invoke(to, site, &KIOSK, id, named(), &PROBE)
 }
 
-pub(crate) fn ask_by_name(site: Site, id: u32) -> Site {
-    invoke(site, &NAMED, id, named(), &PROBE)
+pub(crate) fn ask_by_name(to: &mut Out<impl Write>, site: Site, id: u32) -> Site {
+    invoke(to, site, &NAMED, id, named(), &PROBE)
 }
 
 // What the controller's request left: its new state and store, and the answer on the channel.
-fn answered(mut site: Site, r: Requested, store: [u8; State::STORE_OCTETS], out: &[u8]) -> Site {
+fn answered(
+    to: &mut Out<impl Write>,
+    mut site: Site,
+    r: Requested,
+    store: [u8; State::STORE_OCTETS],
+    out: &[u8],
+) -> Site {
     let next = r.state;
     let before = site.to_kiosk;
-    let apdu = requested(b"   controller sends ", before, out, r);
+    let apdu = requested(to, b"   controller sends ", before, out, r);
     site.controller = next;
     site.controller_store = store;
     site.to_kiosk = apdu;
     site
 }
 
-pub(crate) fn result_with(site: Site, table: &[u8], id: u32, value: &[u8]) -> Site {
+pub(crate) fn result_with(
+    to: &mut Out<impl Write>,
+    site: Site,
+    table: &[u8],
+    id: u32,
+    value: &[u8],
+) -> Site {
     let mut out = [0u8; 32];
     let state = site.controller;
     let mut store = site.controller_store;
     let r = rose::result(state, &mut store, table, PeerId(id), value, &mut out);
-    answered(site, r, store, &out)
+    answered(to, site, r, store, &out)
 }
 
-pub(crate) fn result(site: Site, id: u32, value: &[u8]) -> Site {
-    result_with(site, &CONTROLLER, id, value)
+pub(crate) fn result(to: &mut Out<impl Write>, site: Site, id: u32, value: &[u8]) -> Site {
+    result_with(to, site, &CONTROLLER, id, value)
 }
 
-pub(crate) fn error(site: Site, id: u32, code: u32) -> Site {
+pub(crate) fn error(to: &mut Out<impl Write>, site: Site, id: u32, code: u32) -> Site {
     let mut out = [0u8; 32];
     let state = site.controller;
     let mut store = site.controller_store;
@@ -218,33 +245,38 @@ pub(crate) fn error(site: Site, id: u32, code: u32) -> Site {
         b"",
         &mut out,
     );
-    answered(site, r, store, &out)
+    answered(to, site, r, store, &out)
 }
 
 // An answer that another library wrote, at the front of these octets.
-pub(crate) fn other_make(mut site: Site, apdu: [u8; 32], count: usize) -> Site {
+pub(crate) fn other_make(
+    to: &mut Out<impl Write>,
+    mut site: Site,
+    apdu: [u8; 32],
+    count: usize,
+) -> Site {
     let before = site.to_kiosk;
-    let answer = sent(b"   another sends    ", before, &apdu, count);
+    let answer = sent(to, b"   another sends    ", before, &apdu, count);
     site.to_kiosk = answer;
     site
 }
 
 // The kiosk gives an invocation up.
-pub(crate) fn forget(mut site: Site, id: u32) -> Site {
+pub(crate) fn forget(to: &mut Out<impl Write>, mut site: Site, id: u32) -> Site {
     let state = site.kiosk;
     let store = site.kiosk_store;
     let r = rose::forget(state, &store, &KIOSK, Invocation::Own(OwnId(id)));
     let next = r.state;
     let outcome = r.outcome;
     match outcome {
-        Outcome::Accepted => number(b"   kiosk forgets     invocation ", id),
+        Outcome::Accepted => number(to, b"   kiosk forgets     invocation ", id),
         Outcome::Refused(why) => {
-            number(b"   kiosk keeps       invocation ", id);
-            say(b", ");
-            refusal_words(why);
+            number(to, b"   kiosk keeps       invocation ", id);
+            say(to, b", ");
+            refusal_words(to, why);
         }
     }
-    say(b"\n");
+    say(to, b"\n");
     site.kiosk = next;
     site
 }
@@ -253,7 +285,7 @@ pub(crate) fn forget(mut site: Site, id: u32) -> Site {
 const ROOM: usize = 528;
 
 // The kiosk receives what is on the channel, and records what the library says of it.
-pub(crate) fn kiosk_reads_with(mut site: Site, table: &[u8]) -> Site {
+pub(crate) fn kiosk_reads_with(to: &mut Out<impl Write>, mut site: Site, table: &[u8]) -> Site {
     let mut out = [0u8; ROOM];
     let state = site.kiosk;
     let mut store = site.kiosk_store;
@@ -265,12 +297,12 @@ pub(crate) fn kiosk_reads_with(mut site: Site, table: &[u8]) -> Site {
     let r = rose::receive(state, &mut store, table, x, &mut out);
     let next = r.state;
     let reception = r.reception;
-    say(b"   kiosk reads       ");
-    reception_words(x, reception, r.place);
-    say(b"\n   kiosk records     ");
-    let day = recorded(day, x, reception);
-    say(b"\n");
-    let answer = sent(b"   kiosk sends      ", before, &out, r.written);
+    say(to, b"   kiosk reads       ");
+    reception_words(to, x, reception, r.place);
+    say(to, b"\n   kiosk records     ");
+    let day = recorded(to, day, x, reception);
+    say(to, b"\n");
+    let answer = sent(to, b"   kiosk sends      ", before, &out, r.written);
     site.kiosk = next;
     site.kiosk_store = store;
     site.day = day;
@@ -279,16 +311,20 @@ pub(crate) fn kiosk_reads_with(mut site: Site, table: &[u8]) -> Site {
     site
 }
 
-pub(crate) fn kiosk_reads(site: Site) -> Site {
-    kiosk_reads_with(site, &KIOSK)
+pub(crate) fn kiosk_reads(to: &mut Out<impl Write>, site: Site) -> Site {
+    kiosk_reads_with(to, site, &KIOSK)
 }
 
 // The same with the table of edition 2.
-pub(crate) fn kiosk_reads_by_name(site: Site) -> Site {
-    kiosk_reads_with(site, &NAMED)
+pub(crate) fn kiosk_reads_by_name(to: &mut Out<impl Write>, site: Site) -> Site {
+    kiosk_reads_with(to, site, &NAMED)
 }
 
-pub(crate) fn controller_reads_with(mut site: Site, table: &[u8]) -> Site {
+pub(crate) fn controller_reads_with(
+    to: &mut Out<impl Write>,
+    mut site: Site,
+    table: &[u8],
+) -> Site {
     let mut out = [0u8; ROOM];
     let state = site.controller;
     let mut store = site.controller_store;
@@ -299,16 +335,16 @@ pub(crate) fn controller_reads_with(mut site: Site, table: &[u8]) -> Site {
     let r = rose::receive(state, &mut store, table, x, &mut out);
     let next = r.state;
     let reception = r.reception;
-    say(b"   controller reads  ");
-    reception_words(x, reception, r.place);
-    say(b"\n");
-    let answer = sent(b"   controller sends ", before, &out, r.written);
+    say(to, b"   controller reads  ");
+    reception_words(to, x, reception, r.place);
+    say(to, b"\n");
+    let answer = sent(to, b"   controller sends ", before, &out, r.written);
     site.controller = next;
     site.controller_store = store;
     site.to_kiosk = answer;
     site
 }
 
-pub(crate) fn controller_reads(site: Site) -> Site {
-    controller_reads_with(site, &CONTROLLER)
+pub(crate) fn controller_reads(to: &mut Out<impl Write>, site: Site) -> Site {
+    controller_reads_with(to, site, &CONTROLLER)
 }

@@ -2,6 +2,8 @@
 use crate::ends::{PROBE, Site, controller_reads_with, invoke, kiosk_reads_with, result_with};
 use crate::words::say;
 use codes::Code;
+use std::io::Write;
+use text::out::Out;
 
 // The kiosk's table of edition 2 and the two operations before the others: arguments of type 02 and 30, results of type 0a.
 const KIOSK: [u8; 87] = *b"\
@@ -20,27 +22,33 @@ const CONTROLLER: [u8; 60] = *b"\
     \x00\x02\x00\x00\x00\x02\x00\x01";
 
 // The kiosk invokes an operation, and the controller receives it.
-fn ask(site: Site, id: u32, code: u32, argument: &[u8]) -> Site {
-    controller_reads_with(
-        invoke(site, &KIOSK, id, Code::Local(code), argument),
-        &CONTROLLER,
-    )
+fn ask(to: &mut Out<impl Write>, site: Site, id: u32, code: u32, argument: &[u8]) -> Site {
+    let asked = invoke(to, site, &KIOSK, id, Code::Local(code), argument);
+    controller_reads_with(to, asked, &CONTROLLER)
 }
 
-pub(crate) fn fetched(mut site: Site) -> Site {
+pub(crate) fn fetched(to: &mut Out<impl Write>, mut site: Site) -> Site {
     say(
+        to,
         b"\n11. A lost answer that is fetched: the controller kept it, and need not read the probe again\n",
     );
     say(
+        to,
         b"   both take         tables with operations -2, to ask after an invocation, and -3, to confirm that its answer came\n",
     );
-    site = ask(site, 15, 7, &PROBE);
-    site = result_with(site, &CONTROLLER, 15, b"\x02\x01\x13");
-    say(b"   channel loses     this answer\n   kiosk asks after  invocation 15\n");
-    site = ask(site, 16, 0xFFFF_FFFE, b"\x30\x05\xa0\x03\x02\x01\x0f");
-    site = kiosk_reads_with(site, &KIOSK);
-    site = kiosk_reads_with(site, &KIOSK);
-    say(b"   kiosk confirms    that the answer to invocation 15 came\n");
-    site = ask(site, 17, 0xFFFF_FFFD, b"\x02\x01\x0f");
-    kiosk_reads_with(site, &KIOSK)
+    site = ask(to, site, 15, 7, &PROBE);
+    site = result_with(to, site, &CONTROLLER, 15, b"\x02\x01\x13");
+    say(
+        to,
+        b"   channel loses     this answer\n   kiosk asks after  invocation 15\n",
+    );
+    site = ask(to, site, 16, 0xFFFF_FFFE, b"\x30\x05\xa0\x03\x02\x01\x0f");
+    site = kiosk_reads_with(to, site, &KIOSK);
+    site = kiosk_reads_with(to, site, &KIOSK);
+    say(
+        to,
+        b"   kiosk confirms    that the answer to invocation 15 came\n",
+    );
+    site = ask(to, site, 17, 0xFFFF_FFFD, b"\x02\x01\x0f");
+    kiosk_reads_with(to, site, &KIOSK)
 }

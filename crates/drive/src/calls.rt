@@ -9,9 +9,11 @@ use ber::output::put_octets;
 use codes::{Code, Name};
 use protocol::{Invocation, Received, Requested};
 use records::{OwnId, PeerId, State};
+use std::io::Write;
+use text::out::Out;
 
 // The numbers before a frame's payload, as docs/DRIVE.md has them.
-#[derive(Drop)]
+#[derive(Clone, Copy)]
 pub(crate) struct Frame {
     pub(crate) kind: u8,
     pub(crate) flag: u8,
@@ -111,6 +113,7 @@ fn received(
 }
 
 fn receive(
+    to: &mut Out<impl Write>,
     asked: Asked,
     state: State,
     store: &mut [u8],
@@ -125,6 +128,7 @@ fn receive(
     let at = reception_line(&mut line, x, reception);
     let value = value_of(reception);
     emit(
+        to,
         &mut line,
         at,
         next,
@@ -188,6 +192,7 @@ fn requested(
 }
 
 fn request_or_forget(
+    to: &mut Out<impl Write>,
     asked: Asked,
     f: Frame,
     state: State,
@@ -204,6 +209,7 @@ fn request_or_forget(
     let next = r.state;
     let at = outcome_line(&mut line, f.kind == 7, outcome);
     emit(
+        to,
         &mut line,
         at,
         next,
@@ -219,6 +225,7 @@ fn request_or_forget(
 
 // A call, made so many times, and its line.
 pub(crate) fn call(
+    to: &mut Out<impl Write>,
     asked: Asked,
     f: Frame,
     state: State,
@@ -229,7 +236,7 @@ pub(crate) fn call(
 ) -> State {
     fill(out);
     if f.kind == 2 {
-        return receive(asked, state, store, table, payload, out);
+        return receive(to, asked, state, store, table, payload, out);
     }
-    request_or_forget(asked, f, state, store, table, payload, out)
+    request_or_forget(to, asked, f, state, store, table, payload, out)
 }

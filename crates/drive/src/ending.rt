@@ -8,9 +8,10 @@ use crate::resting::resting_line;
 use crate::side::side_line;
 use apdu::parse::body_value;
 use apdu::{Span, Value};
-use libc::STDOUT_FILENO;
 use protocol::{Indication, Reception};
 use records::State;
+use std::io::Write;
+use text::out::Out;
 use text::{decimal, octets, print, put, words};
 
 fn records_line(line: &mut [u8], at: usize, state: State) -> usize {
@@ -125,6 +126,7 @@ pub(crate) fn line_buffer() -> [u8; 300000]
 
 // Ends the line of a call whose answer stands before `at`, and writes it to standard output.
 pub(crate) fn emit(
+    to: &mut Out<impl Write>,
     line: &mut [u8],
     at: usize,
     state: State,
@@ -142,5 +144,5 @@ pub(crate) fn emit(
     let e = answers_line(line, d, state, store);
     let f = place_line(line, e, is_placed, value);
     let n = put(line, f, 10);
-    print(STDOUT_FILENO, line, n);
+    print(to, line, n);
 }

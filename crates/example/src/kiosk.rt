@@ -8,6 +8,8 @@ use ber::integer::{Integer, integer_of};
 use codes::Code;
 use protocol::{Indication, Received, Reception, Requested};
 use records::{OwnId, PeerId, State};
+use std::io::Write;
+use text::out::Out;
 
 // Asks for a reading of a probe: keep the state, and send the first `written` octets of `out`; a refused request wrote none.
 pub(crate) fn ask(
@@ -63,26 +65,27 @@ pub(crate) fn receive(
     store: &mut [u8; State::STORE_OCTETS],
     octets: &[u8],
     out: &mut [u8],
+    to: &mut Out<impl Write>,
 ) -> Received {
     let r = rose::receive(state, store, &TABLE, octets, out);
     let reception = r.reception;
     match reception {
         // Of an 18 the Reject to send is written; of another refusal nothing is.
-        Reception::Refused(why) => show(b"a refusal, ", why.number() as u32),
+        Reception::Refused(why) => show(to, b"a refusal, ", why.number() as u32),
         // A probe or an acknowledge, if the table has them: what to send is written.
         Reception::Answered => {}
         Reception::Indicated(said) => match said {
             // `id` is the invocation that is answered, and is over now.
             Indication::Result { id, body, .. } => match body {
-                Body::Absent => show(b"a result without a value, invocation ", id.0),
+                Body::Absent => show(to, b"a result without a value, invocation ", id.0),
                 Body::Of { value, .. } => match number_of(octets, value) {
-                    Integer::Of(n) => show(b"a reading of ", n),
-                    Integer::NoInteger => show(b"no number of 32 bits, invocation ", id.0),
+                    Integer::Of(n) => show(to, b"a reading of ", n),
+                    Integer::NoInteger => show(to, b"no number of 32 bits, invocation ", id.0),
                 },
             },
             // An error is no reading, and never a zero; `code` is 1, the only error in the table.
-            Indication::Error { id, .. } => show(b"below detection, invocation ", id.0),
-            Indication::InvokeRejected { id, .. } => show(b"a reject, invocation ", id.0),
+            Indication::Error { id, .. } => show(to, b"below detection, invocation ", id.0),
+            Indication::InvokeRejected { id, .. } => show(to, b"a reject, invocation ", id.0),
             // These three end no invocation.
             Indication::GeneralReject { .. } => {}
             Indication::ResultRejected { .. } => {}
@@ -94,11 +97,11 @@ pub(crate) fn receive(
     r
 }
 
-fn show(what: &[u8], n: u32) {
+fn show(to: &mut Out<impl Write>, what: &[u8], n: u32) {
     let mut line = [0u8; 128];
     let mut at = text::words(&mut line, 0, b"kiosk got   ");
     at = text::words(&mut line, at, what);
     at = text::signed(&mut line, at, n);
     at = text::put(&mut line, at, b'\n');
-    text::print(1, &line, at);
+    text::print(to, &line, at);
 }

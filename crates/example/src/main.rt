@@ -1,10 +1,14 @@
 // The smallest use of the library: a kiosk asks a controller for readings, and what one end writes the other receives.
+#![tactic(auto)]
+
 mod controller;
 mod kiosk;
 
 use apdu::Span;
 use apdu::parse::octets_of;
 use records::{OwnId, State};
+use std::io::Write;
+use text::out::Out;
 
 // Operation 7, reading: class 2, argument and result of type 02, result optional; error 1, below detection: no parameter.
 pub(crate) const TABLE: [u8; 34] = *b"\
@@ -14,7 +18,7 @@ pub(crate) const TABLE: [u8; 34] = *b"\
     \x00\x00\x00\x00";
 
 // The state of each end, and the store of the answers that it keeps.
-#[derive(Drop)]
+#[derive(Clone, Copy)]
 struct Ends {
     kiosk: State,
     kiosk_store: [u8; State::STORE_OCTETS],
@@ -23,7 +27,7 @@ struct Ends {
 }
 
 // An end that wrote no octets sends nothing.
-fn print_octets(what: &[u8], octets: &[u8]) {
+fn print_octets(to: &mut Out<impl Write>, what: &[u8], octets: &[u8]) {
     if octets.len() == 0 {
         return;
     }
@@ -31,24 +35,24 @@ fn print_octets(what: &[u8], octets: &[u8]) {
     let mut at = text::words(&mut line, 0, what);
     at = text::spaced_octets(&mut line, at, octets);
     at = text::put(&mut line, at, b'\n');
-    text::print(1, &line, at);
+    text::print(to, &line, at);
 }
 
 // The kiosk receives octets, and sends what it wrote then, as the Reject of an 18.
-fn delivered(mut ends: Ends, octets: &[u8]) -> Ends {
+fn delivered(to: &mut Out<impl Write>, mut ends: Ends, octets: &[u8]) -> Ends {
     let mut out = [0u8; 32];
     let mut store = ends.kiosk_store;
-    let r = kiosk::receive(ends.kiosk, &mut store, octets, &mut out);
+    let r = kiosk::receive(ends.kiosk, &mut store, octets, &mut out, to);
     let state = r.state;
     let end = r.written;
-    print_octets(b"kiosk sends", octets_of(&out, Span { at: 0, end }));
+    print_octets(to, b"kiosk sends", octets_of(&out, Span { at: 0, end }));
     ends.kiosk = state;
     ends.kiosk_store = store;
     ends
 }
 
 // The kiosk asks for a reading of a probe, and receives what the controller answers.
-fn asked(mut ends: Ends, id: OwnId, probe: &[u8]) -> Ends {
+fn asked(to: &mut Out<impl Write>, mut ends: Ends, id: OwnId, probe: &[u8]) -> Ends {
     let mut request = [0u8; 32];
     let mut answer = [0u8; 32];
     let store = ends.kiosk_store;
@@ -60,7 +64,7 @@ fn asked(mut ends: Ends, id: OwnId, probe: &[u8]) -> Ends {
         return ends;
     }
     let sent = octets_of(&request, Span { at: 0, end });
-    print_octets(b"kiosk asks ", sent);
+    print_octets(to, b"kiosk asks ", sent);
     let mut store = ends.controller_store;
     let r = controller::receive(ends.controller, &mut store, sent, &mut answer);
     let state = r.state;
@@ -70,21 +74,28 @@ fn asked(mut ends: Ends, id: OwnId, probe: &[u8]) -> Ends {
     if end == 0 {
         return ends;
     }
-    delivered(ends, octets_of(&answer, Span { at: 0, end }))
+    delivered(to, ends, octets_of(&answer, Span { at: 0, end }))
 }
 
-fn main() {
+// Four readings that are asked for, and an answer that comes twice.
+fn played(to: &mut Out<impl Write>) {
     let mut ends = Ends {
         kiosk: State::fresh(),
         kiosk_store: [0; State::STORE_OCTETS],
         controller: State::fresh(),
         controller_store: [0; State::STORE_OCTETS],
     };
-    ends = asked(ends, OwnId(1), b"\x02\x01\x01");
-    ends = asked(ends, OwnId(2), b"\x02\x01\x02");
-    ends = asked(ends, OwnId(3), b"\x02\x01\x03");
+    ends = asked(to, ends, OwnId(1), b"\x02\x01\x01");
+    ends = asked(to, ends, OwnId(2), b"\x02\x01\x02");
+    ends = asked(to, ends, OwnId(3), b"\x02\x01\x03");
     // Ids and codes are the bits of signed numbers: this one is -1.
-    ends = asked(ends, OwnId(0xFFFF_FFFF), b"\x02\x01\x04");
+    ends = asked(to, ends, OwnId(0xFFFF_FFFF), b"\x02\x01\x04");
     // An answer to invocation 1 once more: it is refused with 18, since that invocation is over.
-    delivered(ends, b"\xa2\x03\x02\x01\x01");
+    delivered(to, ends, b"\xa2\x03\x02\x01\x01");
+}
+
+fn main(rt: HostRuntime) {
+    let mut out = Out::new(rt.stdout());
+    played(&mut out);
+    out.flush();
 }

@@ -1,5 +1,6 @@
 // An identifier in words: the universal types by name, every other by its class and number.
-use text::out::{decimal, name, words};
+use std::io::Write;
+use text::out::{Out, decimal, name, words};
 
 // How many octets the identifier at the front of an element takes.
 pub(crate) fn identifier_octets(element: &[u8]) -> usize {
@@ -38,11 +39,11 @@ fn number_of(identifier: &[u8]) -> u32 {
     long_number(identifier)
 }
 
-fn class_and_number(class: &[u8], identifier: &[u8]) {
-    words(1, b"[");
-    words(1, class);
-    decimal(1, number_of(identifier) as u64);
-    words(1, b"]");
+fn class_and_number(out: &mut Out<impl Write>, class: &[u8], identifier: &[u8]) {
+    words(out, b"[");
+    words(out, class);
+    decimal(out, number_of(identifier) as u64);
+    words(out, b"]");
 }
 
 // Whether a universal number has no name here; those from 31 on take several octets.
@@ -53,25 +54,25 @@ fn is_unnamed(number: u8) -> bool {
     }
 }
 
-fn universal_name(identifier: &[u8], number: u8) {
+fn universal_name(out: &mut Out<impl Write>, identifier: &[u8], number: u8) {
     if is_unnamed(number) {
-        class_and_number(b"UNIVERSAL ", identifier);
+        class_and_number(out, b"UNIVERSAL ", identifier);
         return;
     }
     let names =
         b"|BOOLEAN|INTEGER|BIT STRING|OCTET STRING|NULL|OBJECT IDENTIFIER|ObjectDescriptor|EXTERNAL|REAL|ENUMERATED|EMBEDDED PDV|UTF8String|RELATIVE-OID|||SEQUENCE|SET|NumericString|PrintableString|TeletexString|VideotexString|IA5String|UTCTime|GeneralizedTime|GraphicString|VisibleString|GeneralString|UniversalString||BMPString";
-    name(1, names, number as usize);
+    name(out, names, number as usize);
 }
 
 // The name of the identifier whose octets these are.
-pub(crate) fn identifier_name(identifier: &[u8]) {
+pub(crate) fn identifier_name(out: &mut Out<impl Write>, identifier: &[u8]) {
     if identifier.len() == 0 {
         return;
     }
     match identifier[0] / 64 {
-        0 => universal_name(identifier, identifier[0] % 32),
-        1 => class_and_number(b"APPLICATION ", identifier),
-        2 => class_and_number(b"", identifier),
-        _ => class_and_number(b"PRIVATE ", identifier),
+        0 => universal_name(out, identifier, identifier[0] % 32),
+        1 => class_and_number(out, b"APPLICATION ", identifier),
+        2 => class_and_number(out, b"", identifier),
+        _ => class_and_number(out, b"PRIVATE ", identifier),
     }
 }

@@ -5,10 +5,12 @@ use apdu::parse::octets_of;
 use ber::element::well_formed;
 use ber::header::{Header, header_of};
 use records::State;
+use std::io::Write;
+use text::out::Out;
 
 // What is kept from element to element: the place of the next, and the ends of those that it is in. One of an indefinite length ends
 // where that around it does, at the latest.
-#[derive(Drop)]
+#[derive(Clone, Copy)]
 struct Walk {
     more: bool,
     at: usize,
@@ -97,10 +99,25 @@ fn behind(mut w: Walk, level: usize, at: usize) -> Walk {
 }
 
 // An element of a definite length at the front of the octets that are left.
-fn shown(left: &[u8], w: Walk, level: usize, id: u8, start: usize, end: usize) -> Walk {
+fn shown(
+    out: &mut Out<impl Write>,
+    left: &[u8],
+    w: Walk,
+    level: usize,
+    id: u8,
+    start: usize,
+    end: usize,
+) -> Walk {
     let at = w.at;
     let element = octets_of(left, Span { at: 0, end });
-    element_line(at, level, element, start, is_contents_wrong(id, element));
+    element_line(
+        out,
+        at,
+        level,
+        element,
+        start,
+        is_contents_wrong(id, element),
+    );
     let next = plus(at, end);
     if id / 32 % 2 == 1 {
         return inside(w, level, plus(at, start), next, false);
@@ -109,33 +126,40 @@ fn shown(left: &[u8], w: Walk, level: usize, id: u8, start: usize, end: usize) -
 }
 
 // An element of an indefinite length there, and where what it is in ends.
-fn opened(left: &[u8], w: Walk, level: usize, start: usize, end: usize) -> Walk {
+fn opened(
+    out: &mut Out<impl Write>,
+    left: &[u8],
+    w: Walk,
+    level: usize,
+    start: usize,
+    end: usize,
+) -> Walk {
     let at = w.at;
-    open_line(at, level, octets_of(left, Span { at: 0, end: start }));
+    open_line(out, at, level, octets_of(left, Span { at: 0, end: start }));
     inside(w, level, plus(at, start), end, true)
 }
 
 // What stands in the place of an element.
-fn stopped_at(left: &[u8], w: Walk, level: usize, why: &[u8]) -> Walk {
-    stop_line(w.at, level, why, left);
+fn stopped_at(out: &mut Out<impl Write>, left: &[u8], w: Walk, level: usize, why: &[u8]) -> Walk {
+    stop_line(out, w.at, level, why, left);
     stopped(w)
 }
 
 // The next element of those that go on there, up to `end`.
-fn element_step(left: &[u8], w: Walk, level: usize, end: usize) -> Walk {
+fn element_step(out: &mut Out<impl Write>, left: &[u8], w: Walk, level: usize, end: usize) -> Walk {
     if level >= State::LEVELS {
-        return stopped_at(left, w, level, b"level 17, of at most 16:");
+        return stopped_at(out, left, w, level, b"level 17, of at most 16:");
     }
     match header_of(left) {
         Header::At {
             id,
             start,
             end: stop,
-        } => shown(left, w, level, id, start, stop),
-        Header::Open { id: _, start } => opened(left, w, level, start, end),
+        } => shown(out, left, w, level, id, start, stop),
+        Header::Open { id: _, start } => opened(out, left, w, level, start, end),
         Header::NoHeader => {
             let why = b"no element: the identifier or the length is wrong, or octets are missing:";
-            stopped_at(left, w, level, why)
+            stopped_at(out, left, w, level, why)
         }
     }
 }
@@ -148,23 +172,29 @@ fn is_closing(left: &[u8]) -> bool {
 }
 
 // The next element inside one of an indefinite length, or its closing octets.
-fn open_step(left: &[u8], w: Walk, level: usize, end: usize) -> Walk {
+fn open_step(out: &mut Out<impl Write>, left: &[u8], w: Walk, level: usize, end: usize) -> Walk {
     if level == 0 {
         return stopped(w);
     }
     if left.len() == 0 {
-        return stopped_at(left, w, level - 1, b"the closing octets 00 00 are missing");
+        return stopped_at(
+            out,
+            left,
+            w,
+            level - 1,
+            b"the closing octets 00 00 are missing",
+        );
     }
     if is_closing(left) {
         let at = w.at;
-        closing_line(at, level - 1);
+        closing_line(out, at, level - 1);
         return behind(w, level - 1, plus(at, 2));
     }
-    element_step(left, w, level, end)
+    element_step(out, left, w, level, end)
 }
 
 // The next element, or what stands in its place.
-fn step(octets: &[u8], w: Walk) -> Walk {
+fn step(out: &mut Out<impl Write>, octets: &[u8], w: Walk) -> Walk {
     let ends = w.ends;
     let opens = w.is_open;
     let at = w.at;
@@ -172,19 +202,19 @@ fn step(octets: &[u8], w: Walk) -> Walk {
     let end = end_at(&ends, level, octets.len());
     let left = octets_of(octets, Span { at, end });
     if is_open_at(&opens, level) {
-        return open_step(left, w, level, end);
+        return open_step(out, left, w, level, end);
     }
     if left.len() == 0 {
         return stopped(w);
     }
     if level == 0 && at > 0 {
-        return stopped_at(left, w, level, b"behind the APDU:");
+        return stopped_at(out, left, w, level, b"behind the APDU:");
     }
-    element_step(left, w, level, end)
+    element_step(out, left, w, level, end)
 }
 
 // Prints the tree: each step but the last passes an octet or more.
-pub(crate) fn tree(octets: &[u8]) {
+pub(crate) fn tree(out: &mut Out<impl Write>, octets: &[u8]) {
     let mut w = Walk {
         more: true,
         at: 0,
@@ -192,9 +222,10 @@ pub(crate) fn tree(octets: &[u8]) {
         ends: [0; State::LEVELS],
         is_open: [false; State::LEVELS],
     };
-    let mut turns = octets.len();
-    while turns > 0 && w.more {
-        w = step(octets, w);
-        turns -= 1;
+    for _ in 0..octets.len() {
+        if !w.more {
+            return;
+        }
+        w = step(out, octets, w);
     }
 }

@@ -21,7 +21,8 @@ pub(crate) fn two_within(table: &[u8], at: usize) -> u16
 // Four octets that the table has.
 pub(crate) fn four_within(table: &[u8], at: usize) -> u32
     requires { at + 4 ≤ length table.now }
-    ensures { (result ≡ u32 table.now at) × (u16 table.now (at + 2) < 65536) }
+    ensures value { result ≡ u32 table.now at }
+    ensures low { u16 table.now (at + 2) < 65536 }
 {
     let high = two_within(table, at);
     let low = two_within(table, at + 2);
@@ -39,6 +40,7 @@ fn eight_within(table: &[u8], at: usize) -> u64
 }
 
 // A name that the table has, by its place.
+#[tactic(auto, unfolding(crate::specs::Read::name_here))]
 pub(crate) fn name_within(table: &[u8], at: usize) -> Name
     requires { at + 17 ≤ length table.now }
     ensures { result ≡ name_here table.now at }
@@ -50,6 +52,7 @@ pub(crate) fn name_within(table: &[u8], at: usize) -> Name
     }
 }
 
+#[tactic(auto, using(crate::proofs::ReadAnswers::second_edition, crate::proofs::ReadAnswers::first_edition))]
 pub fn edition(table: &[u8]) -> Edition
     ensures { result ≡ edition table.now }
 {
@@ -86,7 +89,8 @@ pub fn has_part(e: Edition, part: Part) -> bool
 }
 
 fn counts_at(e: Edition) -> usize
-    ensures { (result ≡ counts_at e) × (result ≤ 4) }
+    ensures value { result ≡ counts_at e }
+    ensures most { result ≤ 4 }
 {
     match e {
         Edition::First => 0,
@@ -95,7 +99,8 @@ fn counts_at(e: Edition) -> usize
 }
 
 fn head_of(part: Part) -> usize
-    ensures { (result ≡ head_of part) × (result ≤ 16) }
+    ensures value { result ≡ head_of part }
+    ensures most { result ≤ 16 }
 {
     match part {
         Part::Operations => 0,
@@ -107,7 +112,8 @@ fn head_of(part: Part) -> usize
 }
 
 pub(crate) fn size_of(part: Part) -> usize
-    ensures { (result ≡ size_of part) × (result ≤ 17) }
+    ensures value { result ≡ size_of part }
+    ensures most { result ≤ 17 }
 {
     match part {
         Part::Operations => 8,
@@ -144,6 +150,7 @@ pub fn second_part(part: Part) -> Part
     }
 }
 
+#[tactic(auto, using(crate::proofs::ReadAnswers::count_there, crate::proofs::ReadAnswers::count_none))]
 pub fn count(table: &[u8], part: Part) -> u16
     ensures { result ≡ count table.now part }
 {
@@ -154,6 +161,7 @@ pub fn count(table: &[u8], part: Part) -> u16
     0
 }
 
+#[tactic(auto, unfolding(crate::specs::Read::start))]
 pub fn start(table: &[u8], part: Part) -> u16
     ensures { result ≡ start table.now part }
 {
@@ -161,7 +169,7 @@ pub fn start(table: &[u8], part: Part) -> u16
 }
 
 // Where a part starts and how many entries it has.
-#[derive(Drop)]
+#[derive(Clone, Copy)]
 pub(crate) struct Head {
     pub start: u16,
     pub count: u16,
@@ -170,7 +178,8 @@ pub(crate) struct Head {
 // Both in one read, for a part that every edition has.
 pub(crate) fn head_at(table: &[u8], part: Part) -> Head
     requires { in_every part ≡ true }
-    ensures { (result.start ≡ start table.now part) × (result.count ≡ count table.now part) }
+    ensures starts { result.start ≡ start table.now part }
+    ensures counts { result.count ≡ count table.now part }
 {
     let head = four(table, counts_at(edition(table)) + head_of(part));
     Head {
@@ -180,8 +189,10 @@ pub(crate) fn head_at(table: &[u8], part: Part) -> Head
 }
 
 // A part's count and start, read of a table that has its header.
+#[tactic(auto, using(crate::proofs::ReadAnswers::head_inside, crate::proofs::ReadAnswers::count_there, crate::proofs::ReadAnswers::count_none))]
 pub(crate) fn count_within(table: &[u8], e: Edition, part: Part) -> u16
-    requires { (e ≡ edition table.now) × (header_of e ≤ length table.now) }
+    requires same_edition { e ≡ edition table.now }
+    requires header { header_of e ≤ length table.now }
     ensures { result ≡ count table.now part }
 {
     if has_part(e, part) {
@@ -191,21 +202,27 @@ pub(crate) fn count_within(table: &[u8], e: Edition, part: Part) -> u16
 }
 
 // The start of a part that the edition has.
+#[tactic(auto, using(crate::proofs::ReadAnswers::head_inside), unfolding(crate::specs::Read::start))]
 pub(crate) fn start_within(table: &[u8], e: Edition, part: Part) -> u16
-    requires { (e ≡ edition table.now) × (header_of e ≤ length table.now) × (has_part e part ≡ true) }
+    requires same_edition { e ≡ edition table.now }
+    requires header { header_of e ≤ length table.now }
+    requires there { has_part e part ≡ true }
     ensures { result ≡ start table.now part }
 {
     two_within(table, counts_at(e) + head_of(part) + 2)
 }
 
 // Where entry `i` starts, so near that no sum with it wraps.
+#[tactic(auto, using(crate::proofs::ReadAnswers::entry_far), unfolding(crate::specs::Read::entry_start))]
 fn entry_start(table: &[u8], part: Part, i: u16) -> usize
-    ensures { (result ≡ entry_start table.now part i) × (result < 2097152) }
+    ensures value { result ≡ entry_start table.now part i }
+    ensures near { result < 2097152 }
 {
     (start(table, part) as usize) + (i as usize) * size_of(part)
 }
 
 // Where a part ends.
+#[tactic(auto, unfolding(crate::specs::Validity::behind))]
 pub fn end(table: &[u8], part: Part) -> usize
     ensures { result ≡ behind table.now part }
 {
@@ -213,6 +230,7 @@ pub fn end(table: &[u8], part: Part) -> usize
 }
 
 // Octet `n` of entry `i`.
+#[tactic(auto, unfolding(crate::specs::Read::octet_at))]
 pub fn octet_at(table: &[u8], part: Part, i: u16, n: u8) -> u8
     ensures { result ≡ octet_at table.now part i n }
 {
@@ -233,12 +251,14 @@ pub(crate) fn kind_of(part: Part) -> Kind
 }
 
 // How the code of entry `i` stands in it.
+#[tactic(auto, unfolding(crate::specs::Read::key_at))]
 pub(crate) fn key_in(table: &[u8], part: Part, i: u16) -> Key
     ensures { result ≡ key_at table.now part i }
 {
     key_at(table, start(table, part), kind_of(part), i)
 }
 
+#[tactic(auto, unfolding(crate::specs::Read::name_at, crate::specs::Read::name_here, crate::specs::Read::entry_start))]
 pub fn name_at(table: &[u8], i: u32) -> Name
     ensures { result ≡ name_at table.now i }
 {
@@ -251,6 +271,7 @@ pub fn name_at(table: &[u8], i: u32) -> Name
 }
 
 // The code that stands so in an entry.
+#[tactic(auto, using(crate::proofs::ReadAnswers::code_named, crate::proofs::ReadAnswers::code_unnamed))]
 fn code_of(table: &[u8], key: Key) -> Code
     ensures { result ≡ code_of table.now key }
 {
@@ -260,24 +281,28 @@ fn code_of(table: &[u8], key: Key) -> Code
     Code::Local(key.number)
 }
 
+#[tactic(auto, unfolding(crate::specs::Read::code_at))]
 pub fn code_at(table: &[u8], part: Part, i: u16) -> Code
     ensures { result ≡ code_at table.now part i }
 {
     code_of(table, key_in(table, part, i))
 }
 
+#[tactic(auto, unfolding(crate::specs::Read::first_at))]
 pub fn first_at(table: &[u8], part: Part, i: u16) -> u16
     ensures { result ≡ first_at table.now part i }
 {
     two(table, entry_start(table, part, i))
 }
 
+#[tactic(auto, unfolding(crate::specs::Read::second_at))]
 pub fn second_at(table: &[u8], part: Part, i: u16) -> u16
     ensures { result ≡ second_at table.now part i }
 {
     two(table, entry_start(table, part, i) + 2)
 }
 
+#[tactic(auto, unfolding(crate::specs::Read::operation_at, crate::specs::Read::octet_at))]
 pub fn operation_at(table: &[u8], i: u16) -> Operation
     ensures { result ≡ operation_at table.now i }
 {
@@ -296,12 +321,14 @@ pub fn operation_at(table: &[u8], i: u16) -> Operation
     }
 }
 
+#[tactic(auto, unfolding(crate::specs::Read::idempotent_at))]
 pub fn idempotent_at(table: &[u8], i: u16) -> bool
     ensures { result ≡ idempotent_at table.now i }
 {
     octet_at(table, Part::Operations, i, 7) / 8 % 2 == 1
 }
 
+#[tactic(auto, unfolding(crate::specs::Read::error_at, crate::specs::Read::octet_at))]
 pub fn error_at(table: &[u8], i: u16) -> Error
     ensures { result ≡ error_at table.now i }
 {

@@ -19,12 +19,13 @@ use protocol::Requested;
 use records::State;
 
 // A place with the state there.
-#[derive(Drop)]
+#[derive(Clone, Copy)]
 pub(crate) struct Turn {
     pub(crate) state: State,
     pub(crate) place: Place,
 }
 
+#[tactic(auto, using(crate::proofs::PlayLaws::received_right))]
 fn received(
     table: &[u8],
     capture: &[u8],
@@ -49,6 +50,7 @@ fn received(
 }
 
 // Behind an entry whose call was accepted and wrote its octets, or at one that differs.
+#[tactic(auto, using(crate::proofs::PlayLaws::led_behind, crate::proofs::PlayLaws::led_at))]
 fn turned(capture: &[u8], entry: usize, r: Requested, out: &[u8], octets: &[u8]) -> Turn
     ensures { (store : List ℕ) → Led capture.now entry store (read_requested r store out.now octets.now) result }
 {
@@ -72,6 +74,7 @@ fn turned(capture: &[u8], entry: usize, r: Requested, out: &[u8], octets: &[u8])
     }
 }
 
+#[tactic(auto, using(crate::proofs::PlayLaws::received_turns, crate::proofs::PlayLaws::sent_turns, crate::proofs::PlayLaws::forget_turns, crate::proofs::PlayLaws::nothing_turns))]
 fn played_entry(
     table: &[u8],
     capture: &[u8],
@@ -80,7 +83,8 @@ fn played_entry(
     store: &mut [u8],
     out: &mut [u8],
 ) -> Turn
-    requires { (entry < count capture.now) × (length out.old ≡ octets) }
+    requires there { entry < count capture.now }
+    requires room { length out.old ≡ octets }
     ensures { Turned table.now capture.now (entry + 1)
         (onward table.now capture.now entry (beside state store.old) []) store.new result }
 {
@@ -107,8 +111,10 @@ fn played_entry(
     }
 }
 
+#[tactic(auto, using(crate::proofs::PlayLaws::onward_start, crate::proofs::PlayLaws::turn_differs, crate::proofs::PlayLaws::turn_goes, crate::proofs::PlayLaws::walk_ends))]
 fn walked(table: &[u8], capture: &[u8], store: &mut [u8], out: &mut [u8]) -> Report
-    requires { (store.old ≡ fresh_held.store) × (length out.old ≡ octets) }
+    requires store { store.old ≡ fresh_held.store }
+    requires room { length out.old ≡ octets }
     ensures { read_report result ≡ play table.now capture.now (count capture.now) 0 fresh_held [] }
 {
     let n = count(capture);
@@ -128,6 +134,7 @@ fn walked(table: &[u8], capture: &[u8], store: &mut [u8], out: &mut [u8]) -> Rep
 }
 
 // The entries played with one store of kept answers and one output, which has room for any APDU.
+#[tactic(auto, unfolding(records::specs::Kept::pack_store))]
 pub(crate) fn played(table: &[u8], capture: &[u8]) -> Report
     ensures { read_report result ≡ play table.now capture.now (count capture.now) 0 fresh_held [] }
 {

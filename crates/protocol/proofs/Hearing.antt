@@ -32,7 +32,7 @@ use Rattle.apdu.specs.Field.{Part, octets_of}
 use Rattle.apdu.specs.Parse.{Apdu, parse, invoke as Invoke, result as Result}
 use Rattle.apdu.proofs.FieldRoundTrip.{last_part}
 use Rattle.apdu.proofs.RoundTrip.{body_of}
-use Rattle.protocol.specs.Call.{receive, error, accepted}
+use Rattle.protocol.specs.Call.{receive, accepted}
 use Rattle.protocol.specs.Check.{class_in, is_class, is_silent, linked_to, peer_records}
 use Rattle.protocol.specs.Receive.{field_code, invoke_checks, with_peer, invoke_done}
 use Rattle.protocol.specs.Service.{about, enumerated, reply, probed, acknowledged}

@@ -26,7 +26,7 @@ use Rattle.protocol.specs.Call.{receive, rejecting, refused, is_refused}
 use Rattle.protocol.specs.Check.{code_in, class_in, is_class, own_records}
 use Rattle.protocol.specs.Receive.{other_code, result_checks, error_checks, receive_apdu}
 use Rattle.protocol.specs.Perform.{later_checks, checks, done, perform}
-use Rattle.protocol.specs.Book.{kiosk, Given, World}
+use Rattle.protocol.specs.Book.{Given, World}
 use Rattle.protocol.specs.Demand3.{is_live, Listed, unlisted_problem, AnswerClaim, Reaches}
 use Rattle.protocol.proofs.Checks.{Pass, pass, accepted_passes}
 use Rattle.protocol.proofs.Facts.{ArrivedError, arrived_result, arrived_error}

@@ -24,7 +24,7 @@ use Rattle.optable.specs.Service.{service_of, answers_itself}
 use Rattle.optable.specs.Lookup.{operation_of, listed, class_of, result_of}
 use Rattle.optable.specs.Validity.{valid}
 use Rattle.optable.specs.Value.{value_right}
-use Rattle.optable.proofs.ServiceLaws.{code_of_service, service_code, services_right}
+use Rattle.optable.proofs.ServiceLaws.{code_of_service, services_right}
 use Rattle.apdu.specs.Parse.{parse, result as Result}
 use Rattle.apdu.specs.Encode.{integer_field, code_field, body_field, encode_result}
 use Rattle.apdu.proofs.FieldLaws.{octets_well_formed}

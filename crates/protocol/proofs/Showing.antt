@@ -13,7 +13,6 @@ use Rattle.records.specs.Records.{member}
 use Rattle.optable.specs.declared.Service.{Service}
 use Rattle.optable.specs.declared.Service.TheVariants.{Probe, Acknowledge, Ordinary}
 use Rattle.optable.specs.Service.{service_of}
-use Rattle.optable.specs.Lookup.{known}
 use Rattle.apdu.specs.declared.Number.{Number}
 use Rattle.apdu.specs.declared.Number.TheVariants.{Of, Absent}
 use Rattle.apdu.specs.Field.{Part, octets_of}
@@ -24,7 +23,7 @@ use Rattle.protocol.specs.Call.{receive, rejected_p, rejected_u, indicated_by}
 use Rattle.protocol.specs.Check.{code_in, own_records}
 use Rattle.protocol.specs.Receive.{field_code, invoke_checks, invoke_done, result_checks, error_checks, receive_apdu}
 use Rattle.protocol.specs.Perform.{checks, done, perform}
-use Rattle.protocol.specs.Book.{kiosk, controller, a_result, an_error, Given, wired, Answered, World, shown_by}
+use Rattle.protocol.specs.Book.{controller, a_result, an_error, Given, wired, World, shown_by}
 use Rattle.protocol.specs.Demand3.{WasGiven}
 use Rattle.protocol.proofs.Checks.{settle}
 use Rattle.protocol.proofs.Facts.{arrived_result, arrived_error}

@@ -1,6 +1,11 @@
 // What the six calls answer: document 01's indications and refusals. The calls' definitions stand in specs/, demand 3 in proofs/.
+#![tactic(auto)]
+
 ghost use Rattle.std.specs.Prelude.{◌≡◌};
 ghost use Rattle.protocol.specs.Call.{refusal_number};
+ghost use Rattle.protocol.specs.Demand3.{Demand3};
+ghost use Rattle.protocol.specs.End.{OneEnd};
+ghost use Rattle.protocol.specs.Marked.{MarkedHold};
 ghost use Rattle.protocol.specs.Reading.{read_refusal, refusal_problem};
 
 use apdu::{Body, Number, OwnLink, Value};
@@ -8,14 +13,14 @@ use codes::Code;
 use records::{OwnId, PeerId, State};
 
 // The invocation to forget, on one side or the other.
-#[derive(Drop)]
+#[derive(Clone, Copy)]
 pub enum Invocation {
     Own(OwnId),
     Peer(PeerId),
 }
 
 // A received APDU that was accepted; a value is a place in the lent octets.
-#[derive(Drop)]
+#[derive(Clone, Copy)]
 pub enum Indication {
     Invoke {
         id: PeerId,
@@ -57,7 +62,7 @@ pub enum Indication {
 }
 
 // Why a call was refused, in the order of the papers' numbers: 1 to 19, 21 and 22.
-#[derive(Drop)]
+#[derive(Clone, Copy)]
 pub enum Refusal {
     InvalidTable,
     ShortOutput,
@@ -86,7 +91,7 @@ pub enum Refusal {
 }
 
 // A problem of a Reject: its kind, 80 general, 81 invoke, 82 result or 83 error (hexadecimal), and its number within the kind.
-#[derive(Drop)]
+#[derive(Clone, Copy)]
 pub struct Problem {
     pub kind: u8,
     pub number: u8,
@@ -94,6 +99,7 @@ pub struct Problem {
 
 impl Refusal {
     // The papers' number: 1 to 19, 21 or 22.
+    #[tactic(auto, unfolding(crate::specs::Reading::read_refusal))]
     pub fn number(self) -> u8
         ensures { result ≡ refusal_number (read_refusal self) }
     {
@@ -127,6 +133,7 @@ impl Refusal {
     }
 
     // The problem that the Reject of an 18 carries; another refusal has 0, 0.
+    #[tactic(auto, unfolding(crate::specs::Reading::read_refusal))]
     pub fn problem(self) -> Problem
         ensures { result ≡ refusal_problem (read_refusal self) }
     {
@@ -144,7 +151,7 @@ impl Refusal {
     }
 }
 
-#[derive(Drop)]
+#[derive(Clone, Copy)]
 pub enum Reception {
     Indicated(Indication),
     // A probe or an acknowledge, which nobody is told of: what it is answered stands at the front of the output.
@@ -154,7 +161,7 @@ pub enum Reception {
 
 // What receive answers: the state then, where the received octets are at fault (for a general problem 2 or a 17, else 0), the indication or
 // refusal, and how many octets of the output were written.
-#[derive(Drop)]
+#[derive(Clone, Copy)]
 pub struct Received {
     pub state: State,
     pub place: usize,
@@ -162,7 +169,7 @@ pub struct Received {
     pub written: usize,
 }
 
-#[derive(Drop)]
+#[derive(Clone, Copy)]
 pub enum Outcome {
     Accepted,
     Refused(Refusal),
@@ -170,10 +177,25 @@ pub enum Outcome {
 
 // What a request or forget answers: the state then, where the value is at fault (for a 9 or a 21, else 0), and how many octets of the output
 // were written.
-#[derive(Drop)]
+#[derive(Clone, Copy)]
 pub struct Requested {
     pub state: State,
     pub place: usize,
     pub outcome: Outcome,
     pub written: usize,
 }
+
+// Demand 3 holds of the definitions that the calls keep to.
+pub fn demand_3()
+    ensures { Demand3 }
+{}
+
+// The marked examples P1 to P12 hold of them.
+pub fn marked_examples()
+    ensures { MarkedHold }
+{}
+
+// One end, call after call from a fresh state, is never refused with 19 or 1.
+pub fn one_end()
+    ensures { OneEnd }
+{}

@@ -1,27 +1,23 @@
 -- A kept answer leaves: closing its place in the state and in the store is taking it out of the list.
-use Prim.Native.Nat.{ℕ, suc, ◌+◌, ◌-◌, ◌*◌, ◌≤◌, ◌<◌}
+use Prim.Native.Nat.{ℕ, ◌+◌, ◌-◌, ◌*◌, ◌≤◌}
 use native.Mathlib.Omega.{arith}
 use mathlib.Core.Path.{◌≡◌, refl, sym, ap, subst, ◌∙◌}
-use mathlib.Core.Bool.{Bool, true, false, cond, not, false≢true, ◌&&◌, ◌||◌}
+use mathlib.Core.Bool.{Bool, true, false, cond, not, false≢true, ◌||◌}
 use mathlib.Core.List.Memᴰ.{append_left as in_left}
 use mathlib.Core.List.Memᴰ.{append_right as in_right}
 use mathlib.Core.List.Memᴰ.{head as here}
 use mathlib.Core.List.{List, [], ◌∷◌, ◌++◌, append_assoc, append-nil}
-use mathlib.Core.Logic.{◌⊎◌, inl, inr}
-use lib.Dec.{eqb, leb}
-use lib.ListN.{length, take, drop, set, replicate, length-append, length-replicate, replicate-append-replicate}
-use lib.Seq.{set-append_seam}
-use borrow.Author.Tests.{eqb-true, eq-eqb, leb-true, leb-false, le-leb, not-true}
+use lib.Dec.{eqb}
+use lib.ListN.{length, take, drop, replicate, length-append, replicate-append-replicate}
+use borrow.Author.Tests.{eqb-true, eq-eqb, not-true}
 use Rattle.base.proofs.Tests.{and_left, and_right, or_false_left, or_false_right}
-use Rattle.ber.specs.Output.{placed}
 use Rattle.records.specs.declared.Record.{Record}
-use Rattle.records.specs.declared.Kept.{Kept}
-use Rattle.records.specs.Limits.{answers, answer_octets, store_octets}
-use Rattle.records.specs.Numbers.{among, each_once}
-use Rattle.records.specs.Kept.{KeptAnswer, answer_ids, is_kept, kept_without, with_room, keeping, view_kept, answer_lengths, pack_kept, block, blocks, pack_store}
-use Rattle.records.specs.Steps.{closed_at, place_of, kept_closed, kept_put, fits, kept_room, store_room, kept_next, store_next, can_drop, kept_less, store_less}
+use Rattle.records.specs.Limits.{answers, answer_octets}
+use Rattle.records.specs.Numbers.{each_once}
+use Rattle.records.specs.Kept.{KeptAnswer, answer_ids, is_kept, kept_without, answer_lengths, pack_kept, block, blocks, pack_store}
+use Rattle.records.specs.Steps.{closed_at, place_of, kept_closed, can_drop, kept_less, store_less}
 use Rattle.records.proofs.KeptLaws.{answer_ids_append, answer_ids_length, Short, SoundKept}
-use Rattle.records.proofs.StoreLaws.{answer_lengths_length, block_length, blocks_length, store_length, take_to, drop_to, SoundStore}
+use Rattle.records.proofs.StoreLaws.{answer_lengths_length, block_length, blocks_length, store_length, take_to, drop_to}
 
 -- ---- lists of a width: so many numbers for each answer, and zeros behind
 

@@ -1,17 +1,17 @@
 -- What the code makes of a sound state and its store where an answer is kept or dropped, and where a kept answer stands.
-use Prim.Native.Nat.{ℕ, suc, ◌+◌, ◌*◌, ◌<◌}
+use Prim.Native.Nat.{ℕ, ◌+◌, ◌*◌}
 use native.Mathlib.Omega.{arith}
-use mathlib.Core.Path.{◌≡◌, refl, sym, ap, subst, ◌∙◌}
+use mathlib.Core.Path.{◌≡◌, refl, ap, ◌∙◌}
 use mathlib.Core.Bool.{Bool, true, false, cond, false≢true, ◌||◌}
 use mathlib.Core.List.{List, [], ◌∷◌}
 use lib.Dec.{eqb}
-use lib.ListN.{length, take, drop, get_or}
+use lib.ListN.{take, drop, get_or}
 use lib.Seq.{drop-drop, get_or-drop}
 use Rattle.records.specs.declared.Record.{Record}
 use Rattle.records.specs.declared.Kept.{Kept}
 use Rattle.records.specs.Limits.{answer_octets}
 use Rattle.records.specs.Numbers.{among}
-use Rattle.records.specs.Kept.{KeptAnswer, answer_ids, is_kept, kept_apdu, kept_without, keeping, answers_in, view_kept, pack_kept, pack_store}
+use Rattle.records.specs.Kept.{answer_ids, is_kept, kept_apdu, kept_without, keeping, answers_in, view_kept, pack_kept, pack_store}
 use Rattle.records.specs.State.{put_kept}
 use Rattle.records.specs.Held.{Held, kept_answers, keep_these, drop_answer}
 use Rattle.records.specs.Steps.{place_of, kept_next, store_next, kept_less, store_less}

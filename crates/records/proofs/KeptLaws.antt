@@ -1,7 +1,7 @@
 -- The laws of a list of kept answers: what keeping one more, dropping one and a change of the peer records do to it.
 use Prim.Native.Nat.{ℕ, suc, ◌≤◌}
 use native.Mathlib.Omega.{arith}
-use mathlib.Core.Path.{◌≡◌, refl, sym, ap, subst, ◌∙◌}
+use mathlib.Core.Path.{◌≡◌, refl, sym, ap}
 use mathlib.Core.Bool.{Bool, true, false, cond, not, false≢true, ◌||◌}
 use mathlib.Core.List.Memᴰ.{append_cases as in-cases}
 use mathlib.Core.List.Memᴰ.{cases_cons as in-cons}
@@ -17,7 +17,7 @@ use borrow.Author.Tests.{eqb-true, eq-eqb, leb-true, leb-false}
 use Rattle.base.proofs.Tests.{cond_elim, and_right, or_true_left, or_true_right}
 use Rattle.records.specs.declared.Record.{Record}
 use Rattle.records.specs.Limits.{answers, answer_octets}
-use Rattle.records.specs.Numbers.{among, each_once, leaving}
+use Rattle.records.specs.Numbers.{each_once, leaving}
 use Rattle.records.specs.Records.{member, without}
 use Rattle.records.specs.Kept.{KeptAnswer, answer_ids, is_kept, kept_apdu, kept_without, with_room, keeping}
 use Rattle.records.proofs.IdLaws.{never_both, once_added, among_left, once_leaving}

@@ -8,7 +8,7 @@ use mathlib.Core.List.Memᴰ.{not-nil as in-nil}
 use mathlib.Core.List.{List, [], ◌∷◌, ◌++◌, append_assoc, Memᴰ as In}
 use mathlib.Core.Logic.{◌⊎◌, inl, inr}
 use lib.Dec.{eqb, leb}
-use lib.ListN.{length, take, drop, get_or, replicate, length-drop, length-take, take-append-drop}
+use lib.ListN.{length, take, drop, replicate, length-drop, length-take, take-append-drop}
 use lib.Seq.{length-take-le, take-take}
 use borrow.Author.Tests.{eqb-true, leb-true, not-true}
 use Rattle.base.proofs.Tests.{and_left, and_right}

@@ -141,6 +141,7 @@ pub(crate) fn close_octets(place: usize, store: &mut [u8])
 }
 
 impl Kept {
+    #[tactic(auto, unfolding(crate::specs::Kept::pack_kept))]
     pub(crate) fn fresh() -> Self
         ensures { result ≡ pack_kept [] }
     {

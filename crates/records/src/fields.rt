@@ -115,6 +115,7 @@ pub(crate) fn are_words_clear<'a>(from: usize, highs: &'a [u64], lows: &'a [u64]
 }
 
 // How a code stands in a place.
+#[tactic(auto, unfolding(crate::specs::Records::stored))]
 pub(crate) fn stored(code: Code) -> Name
     ensures { result ≡ stored code }
 {
@@ -129,6 +130,7 @@ pub(crate) fn stored(code: Code) -> Name
 }
 
 // Whether the code that stands so is local.
+#[tactic(auto, unfolding(crate::specs::Records::is_local))]
 fn is_local(name: Name) -> bool
     ensures { result ≡ is_local name }
 {
@@ -136,6 +138,7 @@ fn is_local(name: Name) -> bool
 }
 
 // The code that stands so.
+#[tactic(auto, unfolding(crate::specs::Records::code_of))]
 pub(crate) fn code_of(name: Name) -> Code
     ensures { result ≡ code_of name }
 {

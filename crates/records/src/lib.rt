@@ -1,5 +1,7 @@
 // The records of one side, the invocations that are live: document 01, 'Records'; document 02, Five. Both sides, the ids that rest and the kept answers are
 // the state, in sides.rt.
+#![tactic(auto)]
+
 pub mod answers;
 mod fields;
 pub mod lent;
@@ -14,14 +16,14 @@ use fields::stored;
 use lent::live;
 
 // The id of an invocation that this end made: the two's complement bits of a signed 32-bit number.
-#[derive(Drop)]
+#[derive(Clone, Copy)]
 pub struct OwnId(pub u32);
 
 // The id of an invocation that this end received, as bits too.
-#[derive(Drop)]
+#[derive(Clone, Copy)]
 pub struct PeerId(pub u32);
 
-#[derive(Drop)]
+#[derive(Clone, Copy)]
 pub struct Record {
     pub id: u32,
     pub code: Code,
@@ -29,7 +31,7 @@ pub struct Record {
 
 // An array for each field of a record, so that what only reads is lent the fields that it reads: the id, and the length and the two words of a name; a
 // local code has length 0 and stands in the first four octets of the words. Places from `count` on are unused.
-#[derive(Drop)]
+#[derive(Clone, Copy)]
 pub struct Records {
     pub count: usize,
     pub ids: [u32; State::RECORDS],
@@ -39,7 +41,7 @@ pub struct Records {
 }
 
 // The own ids that were forgotten last, oldest first: document 02, Six. Places from `count` on are unused.
-#[derive(Drop)]
+#[derive(Clone, Copy)]
 pub struct Resting {
     pub count: usize,
     pub ids: [u32; State::RESTING],
@@ -47,14 +49,14 @@ pub struct Resting {
 
 // The ids and lengths of the kept answers, oldest first: document 02, Seven. Their octets, 512 for each, stand in the store, which is lent beside the state.
 // Places from `count` on are unused.
-#[derive(Drop)]
+#[derive(Clone, Copy)]
 pub struct Kept {
     pub count: usize,
     pub ids: [u32; State::ANSWERS],
     pub lengths: [u32; State::ANSWERS],
 }
 
-#[derive(Drop)]
+#[derive(Clone, Copy)]
 pub struct State {
     pub own: Records,
     pub peer: Records,
@@ -62,20 +64,21 @@ pub struct State {
     pub kept: Kept,
 }
 
-#[derive(Drop)]
+#[derive(Clone, Copy)]
 pub enum Found {
     Operation(Code),
     Nothing,
 }
 
 // What a lookup found, beside the state as it was given.
-#[derive(Drop)]
+#[derive(Clone, Copy)]
 pub struct Looked {
     pub state: State,
     pub found: Found,
 }
 
 impl Records {
+    #[tactic(auto, unfolding(crate::specs::Records::stored))]
     fn fresh() -> Self
         ensures { result ≡ pack [] }
     {

@@ -1,58 +1,70 @@
 // Plays a capture with a table, each in the file that is named, and writes one line: document 02, request One.
-use libc::{STDERR_FILENO, STDOUT_FILENO};
+#![tactic(auto)]
+
 use listing::files::Contents;
 use player::Report;
-use text::out::{decimal, words};
+use std::env::FillError;
+use std::io::Write;
+use std::rt::{Env, Files};
+use text::input::argument_count;
+use text::out::{Out, decimal, words};
 
-fn say(s: &[u8]) {
-    words(STDOUT_FILENO, s);
+fn say(out: &mut Out<impl Write>, s: &[u8]) {
+    words(out, s);
 }
 
-fn number(n: usize) {
-    decimal(STDOUT_FILENO, n as u64);
+fn number(out: &mut Out<impl Write>, n: usize) {
+    decimal(out, n as u64);
 }
 
-fn complain(s: &[u8]) {
-    words(STDERR_FILENO, s);
+fn complain(err: &mut Out<impl Write>, s: &[u8]) {
+    words(err, s);
 }
 
-fn line(report: Report) {
+fn line(out: &mut Out<impl Write>, report: Report) {
     match report {
-        Report::InvalidTable => say(b"refused 1\n"),
-        Report::MalformedCapture => say(b"refused 20\n"),
+        Report::InvalidTable => say(out, b"refused 1\n"),
+        Report::MalformedCapture => say(out, b"refused 20\n"),
         Report::Agree(n) => {
-            say(b"entries ");
-            number(n);
-            say(b" agree\n");
+            say(out, b"entries ");
+            number(out, n);
+            say(out, b" agree\n");
         }
         Report::Differs(place) => {
-            say(b"entry ");
-            number(place);
-            say(b" differs\n");
+            say(out, b"entry ");
+            number(out, place);
+            say(out, b" differs\n");
         }
     }
 }
 
 // How many octets of a file are at the front of a buffer; a file that cannot be read counts as empty.
-fn size_of(name: &[u8], buffer: &mut [u8]) -> usize {
-    match listing::files::read(name, buffer) {
+fn size_of(rt: &impl Files, err: &mut Out<impl Write>, name: &[u8], buffer: &mut [u8]) -> usize {
+    match listing::files::read(rt, err, name, buffer) {
         Contents::Of(size) => size,
         Contents::Unreadable => 0,
     }
 }
 
 // The same of the file that an argument names.
-fn size_of_argument(i: usize, buffer: &mut [u8]) -> usize {
-    if i >= os::arg_count() {
-        return 0;
+fn size_of_argument(
+    rt: &(impl Env + Files),
+    err: &mut Out<impl Write>,
+    i: usize,
+    buffer: &mut [u8],
+) -> usize {
+    let mut name = [0u8; 4096];
+    match rt.arg(i, &mut name) {
+        Ok(n) => size_of(rt, err, &name[..n], buffer),
+        Err(FillError::NotPresent) => 0,
+        Err(FillError::TooLong) => {
+            complain(
+                err,
+                b"replay: a file name is too long: name the file by a shorter path\n",
+            );
+            0
+        }
     }
-    let mut name = io::buffer();
-    let n = os::arg(i, &mut name);
-    if os::errno() != 0 {
-        complain(b"replay: a file name is too long: name the file by a shorter path\n");
-        return 0;
-    }
-    size_of(&name[..n], buffer)
 }
 
 fn front(buffer: &[u8], size: usize) -> &[u8] {
@@ -63,13 +75,24 @@ fn front(buffer: &[u8], size: usize) -> &[u8] {
 }
 
 // Each buffer is longer than the longest table or capture, so that a longer file is seen to be one.
-fn main() {
-    if os::arg_count() < 3 {
-        complain(b"replay: name the files of the table and of the capture: replay TABLE CAPTURE\n");
+fn answer(rt: &(impl Env + Files), out: &mut Out<impl Write>, err: &mut Out<impl Write>) {
+    if argument_count(rt) < 3 {
+        complain(
+            err,
+            b"replay: name the files of the table and of the capture: replay TABLE CAPTURE\n",
+        );
     }
-    let mut table = io::large_buffer();
-    let mut capture = io::large_buffer();
-    let t = size_of_argument(1, &mut table);
-    let c = size_of_argument(2, &mut capture);
-    line(player::replay(front(&table, t), front(&capture, c)));
+    let mut table = [0u8; 65536];
+    let mut capture = [0u8; 65536];
+    let t = size_of_argument(rt, err, 1, &mut table);
+    let c = size_of_argument(rt, err, 2, &mut capture);
+    line(out, player::replay(front(&table, t), front(&capture, c)));
+}
+
+fn main(rt: HostRuntime) {
+    let mut out = Out::new(rt.stdout());
+    let mut err = Out::new(rt.stderr());
+    answer(&rt, &mut out, &mut err);
+    out.flush();
+    err.flush();
 }

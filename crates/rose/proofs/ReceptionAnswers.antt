@@ -1,9 +1,8 @@
 -- What a reception writes, as the code writes it.
 use Prim.Native.Nat.{ℕ}
 use native.Mathlib.Omega.{arith}
-use mathlib.Core.Path.{◌≡◌, refl, sym, ap, subst}
+use mathlib.Core.Path.{◌≡◌, sym, subst}
 use mathlib.Core.List.{List, [], ◌∷◌, append-nil}
-use lib.ListN.{length}
 use Rattle.records.specs.Held.{Held}
 use Rattle.apdu.specs.declared.Number.{Number}
 use Rattle.apdu.specs.Encode.{encode_reject, WrittenWhole}

@@ -1,9 +1,9 @@
 -- What receive answers itself, as the code finds it: the id that an argument is about, what is replied, and how it is written.
 use Prim.Native.Nat.{ℕ, ◌+◌, ◌-◌, ◌*◌, ◌≤◌, ◌<◌}
 use mathlib.Core.Path.{◌≡◌, refl, sym, ap, subst, ◌∙◌}
-use mathlib.Core.Bool.{Bool, true, false, cond, false≢true}
+use mathlib.Core.Bool.{true, false, false≢true}
 use mathlib.Core.List.{List, [], ◌∷◌, ◌++◌, append-nil}
-use mathlib.Core.Option.{Option, some}
+use mathlib.Core.Option.{Option}
 use native.Mathlib.Omega.{arith}
 use lib.ListN.{length, take, drop, get_or, length-append, get_or-eq_default as getD-behind}
 use Rattle.base.specs.Lists.{non_empty}
@@ -12,8 +12,7 @@ use Rattle.base.proofs.Tests.{cond_true, cond_false}
 use Rattle.codes.specs.declared.Code.{Code}
 use Rattle.codes.specs.declared.Code.TheVariants.{Local, Global}
 use Rattle.records.specs.declared.PeerId.{PeerId}
-use Rattle.records.specs.Limits.{octets, answers, answer_octets}
-use Rattle.records.specs.Numbers.{among}
+use Rattle.records.specs.Limits.{octets, answer_octets}
 use Rattle.records.specs.Records.{member}
 use Rattle.records.specs.Kept.{is_kept}
 use Rattle.records.specs.Held.{Held, kept_answers}

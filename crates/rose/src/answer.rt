@@ -23,6 +23,7 @@ fn named(why: u8, place: usize) -> usize
 }
 
 // Refused, the value being at fault at a place, if it is.
+#[tactic(auto, unfolding(protocol::specs::Reading::read_outcome))]
 pub(crate) fn refused(state: State, why: u8, place: usize) -> Requested
     ensures { RefusedRequest state why place result }
 {
@@ -45,6 +46,7 @@ pub(crate) fn accepted(state: State, written: usize) -> Requested
     }
 }
 
+#[tactic(auto, unfolding(protocol::specs::Reading::read_reception))]
 pub(crate) fn unheard(state: State, why: u8) -> Received
     ensures { RefusedReceive state why result }
 {
@@ -57,6 +59,7 @@ pub(crate) fn unheard(state: State, why: u8) -> Received
 }
 
 // Writes what receive answers itself, if it does, or the Reject of an 18.
+#[tactic(auto, using(protocol::proofs::Refusals::only_rejected, crate::proofs::Written::writes_nothing, crate::proofs::ReceptionAnswers::reply_of, crate::proofs::ReceptionAnswers::reject_of_lem))]
 pub(crate) fn write_answer<'a>(
     out: &mut [u8],
     lengths: &'a [u32],

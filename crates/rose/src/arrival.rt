@@ -3,7 +3,7 @@ ghost use Rattle.std.specs.Prelude.{◌≡◌, true, List, ℕ, length, get_or, 
 ghost use Rattle.records.specs.Records.{lent, lookup};
 ghost use Rattle.records.specs.Held.{Held};
 ghost use Rattle.optable.specs.Validity.{valid};
-ghost use Rattle.apdu.specs.Parse.{invoke, result, error, parse};
+ghost use Rattle.apdu.specs.Parse.{invoke, result as result_apdu, error, parse};
 ghost use Rattle.apdu.specs.Reading.{read_own_link, read_value, read_body, read_parsed};
 ghost use Rattle.protocol.specs.Call.{receive, refused};
 ghost use Rattle.protocol.specs.Check.{own_records};
@@ -23,7 +23,7 @@ use records::{OwnId, PeerId, State};
 
 // The checks of receive behind 19 and 1.
 pub(crate) fn check_receive(opened: Opening, table: &[u8], octets: usize, room: usize) -> Verdict
-    ensures* { λ r. ⌜ ((s : Held) (x : List ℕ) → Opened table.now s opened.verdict → octets ≡ length x → Judged table.now s (receive x room) r) ⌝ }
+    ensures { (s : Held) (x : List ℕ) → Opened table.now s opened.verdict → octets ≡ length x → Judged table.now s (receive x room) result }
 {
     let verdict = opened.verdict;
     verdict
@@ -32,7 +32,7 @@ pub(crate) fn check_receive(opened: Opening, table: &[u8], octets: usize, room: 
 }
 
 fn starts_reject(x: &[u8]) -> bool
-    ensures* { λ r. ⌜ r ≡ eqb (get_or x.now 0 0) 0xA4 ⌝ }
+    ensures { result ≡ eqb (get_or x.now 0 0) 0xA4 }
 {
     if x.len() == 0 {
         return false;
@@ -42,7 +42,7 @@ fn starts_reject(x: &[u8]) -> bool
 
 // Steps 1 and 2: a general problem, or 17 if the first octet is A4.
 fn arrive_wrong(x: &[u8], number: u8, id: Number) -> Arrival
-    ensures* { λ r. ⌜ ((s : Held) → Answers x.now s (refused (fault x.now number id)) r) ⌝ }
+    ensures { (s : Held) → Answers x.now s (refused (fault x.now number id)) result }
 {
     if starts_reject(x) {
         return refused(Refusal::UnacceptableReject);
@@ -67,8 +67,9 @@ fn arrive_invoke<'a>(
     field: CodeField,
     value: Value,
 ) -> Arrival
-    requires { (valid table.now ≡ true) × StandsAt table.now opened.found opened.entry }
-    ensures* { λ r. ⌜ ((s : Held) (lengths highs lows sizes : List ℕ) → opened.found ≡ found_by (read_own_link linked) (own_records s) → Arrives table.now (with_kept (with_peer_side s (lent count ids.now lengths highs lows)) (record { count = kept_count; ids = kept_ids.now; lengths = sizes })) x.now (invoke id.0 (read_own_link linked) field (read_value x.now value)) r) ⌝ }
+    requires table_valid { valid table.now ≡ true }
+    requires stands { StandsAt table.now opened.found opened.entry }
+    ensures { (s : Held) (lengths highs lows sizes : List ℕ) → opened.found ≡ found_by (read_own_link linked) (own_records s) → Arrives table.now (with_kept (with_peer_side s (lent count ids.now lengths highs lows)) (record { count = kept_count; ids = kept_ids.now; lengths = sizes })) x.now (invoke id.0 (read_own_link linked) field (read_value x.now value)) result }
 {
     let code = field_code(field);
     let place = operation_place(table, code);
@@ -92,8 +93,9 @@ fn arrive_invoke<'a>(
 }
 
 fn arrive_result(opened: Opening, table: &[u8], x: &[u8], id: OwnId, body: Body) -> Arrival
-    requires { (valid table.now ≡ true) × StandsAt table.now opened.found opened.entry }
-    ensures* { λ r. ⌜ ((s : Held) → opened.found ≡ lookup id.0 (own_records s) → Arrives table.now s x.now (result id.0 (read_body x.now body)) r) ⌝ }
+    requires table_valid { valid table.now ≡ true }
+    requires stands { StandsAt table.now opened.found opened.entry }
+    ensures { (s : Held) → opened.found ≡ lookup id.0 (own_records s) → Arrives table.now s x.now (result_apdu id.0 (read_body x.now body)) result }
 {
     let found = opened.found;
     match check_result(opened, table, x, id, body) {
@@ -117,8 +119,9 @@ fn arrive_error(
     field: CodeField,
     value: Value,
 ) -> Arrival
-    requires { (valid table.now ≡ true) × StandsAt table.now opened.found opened.entry }
-    ensures* { λ r. ⌜ ((s : Held) → opened.found ≡ lookup id.0 (own_records s) → Arrives table.now s x.now (error id.0 field (read_value x.now value)) r) ⌝ }
+    requires table_valid { valid table.now ≡ true }
+    requires stands { StandsAt table.now opened.found opened.entry }
+    ensures { (s : Held) → opened.found ≡ lookup id.0 (own_records s) → Arrives table.now s x.now (error id.0 field (read_value x.now value)) result }
 {
     let found = opened.found;
     match check_error(opened, table, x, id, field, value) {
@@ -137,6 +140,7 @@ fn arrive_error(
 
 // A received APDU that was parsed, behind 19, 1, 3 and 2, with the own record that it leads to and where its operation stands. Of the Rejects only
 // one of an Invoke retires a record.
+#[tactic(auto, using(crate::proofs::Arrivals::leads_as, crate::proofs::Arrivals::arrives_as, crate::proofs::Arrivals::arrives_wrong, crate::proofs::Arrivals::indicated_as, crate::proofs::Arrivals::on_structure, crate::proofs::Arrivals::on_kind, crate::proofs::Arrivals::on_fields, crate::proofs::Arrivals::on_invoke_reject, crate::proofs::Arrivals::on_result_reject, crate::proofs::Arrivals::on_error_reject, crate::proofs::Arrivals::on_general_reject), unfolding(apdu::specs::Reading::read_parsed))]
 pub(crate) fn arrive<'a>(
     opened: Opening,
     count: usize,
@@ -147,8 +151,10 @@ pub(crate) fn arrive<'a>(
     x: &[u8],
     parsed: Parsed,
 ) -> Arrival
-    requires { (valid table.now ≡ true) × (StandsAt table.now opened.found opened.entry × (read_parsed x.now parsed ≡ parse x.now)) }
-    ensures* { λ r. ⌜ ((s : Held) (lengths highs lows sizes : List ℕ) → opened.found ≡ leads_to (parse x.now) (own_records s) → Arrives table.now (with_kept (with_peer_side s (lent count ids.now lengths highs lows)) (record { count = kept_count; ids = kept_ids.now; lengths = sizes })) x.now (parse x.now) r) ⌝ }
+    requires table_valid { valid table.now ≡ true }
+    requires stands { StandsAt table.now opened.found opened.entry }
+    requires as_read { read_parsed x.now parsed ≡ parse x.now }
+    ensures { (s : Held) (lengths highs lows sizes : List ℕ) → opened.found ≡ leads_to (parse x.now) (own_records s) → Arrives table.now (with_kept (with_peer_side s (lent count ids.now lengths highs lows)) (record { count = kept_count; ids = kept_ids.now; lengths = sizes })) x.now (parse x.now) result }
 {
     match parsed {
         Parsed::BadlyStructured { at: _ } => arrive_wrong(x, 2, Number::Absent),

@@ -12,7 +12,7 @@ use codes::Code;
 use records::{OwnId, PeerId, State};
 
 // What a received APDU changes, so that the state itself is not handed on until it is known.
-#[derive(Drop)]
+#[derive(Clone, Copy)]
 pub(crate) enum Change {
     Unchanged,
     // A peer record comes, and the kept answer of its id goes.

@@ -21,7 +21,7 @@ use protocol::{Indication, Reception, Refusal};
 use records::{PeerId, State};
 
 // What becomes of a received APDU.
-#[derive(Drop)]
+#[derive(Clone, Copy)]
 pub(crate) struct Arrival {
     pub reception: Reception,
     pub change: Change,

@@ -47,6 +47,7 @@ fn is_local(field: CodeField) -> bool
     }
 }
 
+#[tactic(auto, using(crate::proofs::Arrivals::right_absent, crate::proofs::Arrivals::right_empty, crate::proofs::Arrivals::right_octets))]
 fn is_right(rule: Rule, x: &[u8], value: Value) -> bool
     ensures { result ≡ value_right rule (octets_of (read_value x.now value)) }
 {
@@ -75,7 +76,9 @@ pub(crate) fn check_invoke(
     field: CodeField,
     value: Value,
 ) -> Verdict
-    requires { (valid table.now ≡ true) × (StandsAt table.now opened.found opened.entry × PlaceOf table.now Operations (field_code field) place) }
+    requires table_valid { valid table.now ≡ true }
+    requires stands { StandsAt table.now opened.found opened.entry }
+    requires placed { PlaceOf table.now Operations (field_code field) place }
     ensures { (s : Held) (lengths highs lows : List ℕ) → opened.found ≡ found_by (read_own_link linked) (own_records s) → read_verdict (rejecting (Of id.0) 0x81) result ≡ first (invoke_checks table.now (with_peer_side s (lent count ids.now lengths highs lows)) id.0 (read_own_link linked) field (read_value x.now value)) }
 {
     let named = operation_in(table, place);
@@ -99,6 +102,7 @@ pub(crate) fn check_invoke(
 }
 
 // Whether a code is present and is not the record's.
+#[tactic(auto, using(crate::proofs::Arrivals::other_local, crate::proofs::Arrivals::other_form), unfolding(apdu::specs::Reading::read_body))]
 fn is_other(body: Body, code: Code) -> bool
     ensures { (x : List ℕ) → result ≡ other_code (read_body x body) code }
 {
@@ -124,7 +128,8 @@ pub(crate) fn check_result(
     id: OwnId,
     body: Body,
 ) -> Verdict
-    requires { (valid table.now ≡ true) × StandsAt table.now opened.found opened.entry }
+    requires table_valid { valid table.now ≡ true }
+    requires stands { StandsAt table.now opened.found opened.entry }
     ensures { (s : Held) → opened.found ≡ lookup id.0 (own_records s) → read_verdict (rejecting (Of id.0) 0x82) result ≡ first (result_checks table.now s id.0 (read_body x.now body)) }
 {
     let found = opened.found;
@@ -145,7 +150,8 @@ pub(crate) fn check_error(
     field: CodeField,
     value: Value,
 ) -> Verdict
-    requires { (valid table.now ≡ true) × StandsAt table.now opened.found opened.entry }
+    requires table_valid { valid table.now ≡ true }
+    requires stands { StandsAt table.now opened.found opened.entry }
     ensures { (s : Held) → opened.found ≡ lookup id.0 (own_records s) → read_verdict (rejecting (Of id.0) 0x83) result ≡ first (error_checks table.now s id.0 field (read_value x.now value)) }
 {
     let found = opened.found;

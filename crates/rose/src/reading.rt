@@ -22,6 +22,7 @@ pub(crate) fn read(x: &[u8]) -> Parsed
 }
 
 // The own record that an APDU leads to: the parent of an Invoke, the invocation of a Result or an Error.
+#[tactic(auto, using(crate::proofs::Arrivals::leads_nowhere), unfolding(apdu::specs::Reading::read_parsed))]
 pub(crate) fn leads_to(parsed: Parsed) -> Sought
     ensures { (x : List ℕ) (own peer : List Record) → sought_in own peer result ≡ leads_to (read_parsed x parsed) own }
 {
@@ -43,6 +44,7 @@ pub(crate) fn leads_to(parsed: Parsed) -> Sought
 }
 
 // Where octets are at fault that are no APDU; else 0.
+#[tactic(auto, using(crate::proofs::Faults::parsed_fault, crate::proofs::Faults::parsed_other))]
 pub(crate) fn fault_in(parsed: Parsed) -> usize
     ensures { (x : List ℕ) → result ≡ fault_in (read_parsed x parsed) }
 {

@@ -24,7 +24,7 @@ use records::lent::{has_peer, live};
 use records::{PeerId, State};
 
 // What is written for an Invoke that nobody is told of.
-#[derive(Drop)]
+#[derive(Clone, Copy)]
 pub(crate) enum Reply {
     Nothing,
     // The result of the Invoke with the id: ENUMERATED with the number.
@@ -33,6 +33,7 @@ pub(crate) enum Reply {
     Fetched { id: PeerId, place: usize },
 }
 
+#[tactic(auto, unfolding(protocol::specs::Service::about_in))]
 fn about_in(service: Service, v: &[u8]) -> Number
     ensures { result ≡ about_in service v.now }
 {
@@ -44,6 +45,7 @@ fn about_in(service: Service, v: &[u8]) -> Number
 }
 
 // The id that the argument is about.
+#[tactic(auto, using(crate::proofs::ReplyAnswers::about_none, crate::proofs::ReplyAnswers::about_some))]
 pub(crate) fn about(service: Service, x: &[u8], value: Value) -> Number
     ensures { result ≡ about service (octets_of (read_value x.now value)) }
 {
@@ -83,6 +85,7 @@ pub(crate) fn is_inside_right(service: Service, x: &[u8], value: Value) -> bool
 }
 
 // The answer to probe `id` about `asked`: running, finished with the kept answer, or unknown.
+#[tactic(auto, using(crate::proofs::ReplyAnswers::probed_running, crate::proofs::ReplyAnswers::probed_unknown))]
 pub(crate) fn probed<'a>(
     count: usize,
     ids: &'a [u32; State::RECORDS],
@@ -112,6 +115,7 @@ pub(crate) fn probed<'a>(
 }
 
 // The answer to acknowledge `id` about `asked`: 0 where an answer is kept, which is then dropped, else 1.
+#[tactic(auto, using(crate::proofs::ReplyAnswers::acknowledged_kept, crate::proofs::ReplyAnswers::acknowledged_none))]
 pub(crate) fn acknowledged(
     kept_count: usize,
     kept_ids: &[u32; State::ANSWERS],
@@ -144,6 +148,7 @@ fn write_enumerated(out: &mut [u8], id: PeerId, code: Code, number: u8) -> usize
 }
 
 // Writes what receive answers itself.
+#[tactic(auto, using(crate::proofs::Written::writes_nothing, crate::proofs::ReplyAnswers::result_written))]
 pub(crate) fn write_reply<'a>(
     out: &mut [u8],
     lengths: &'a [u32],

@@ -8,7 +8,7 @@ ghost use Rattle.records.specs.Held.{Held};
 ghost use Rattle.optable.specs.declared.Part.TheVariants.{Operations};
 ghost use Rattle.optable.specs.Lookup.{PlaceOf};
 ghost use Rattle.apdu.specs.Reading.{read_peer_link};
-ghost use Rattle.protocol.specs.Call.{invoke, result, error, reject};
+ghost use Rattle.protocol.specs.Call.{invoke, result as result_call, error, reject};
 ghost use Rattle.protocol.specs.Check.{value_well, in_apdu, in_body, peer_records, resting_ids};
 ghost use Rattle.protocol.specs.Perform.{is_user_problem};
 ghost use Rattle.rose.specs.Steps.{with_own_side, found_by, Opens, Judged, ValueChecked};
@@ -28,8 +28,9 @@ use records::lent::has_own;
 use records::{OwnId, PeerId, State};
 
 // A value, empty for none, is one well-formed element of at most so many levels.
+#[tactic(auto, using(crate::proofs::PartAnswers::well_none, crate::proofs::PartAnswers::well_some))]
 fn is_well(value: &[u8], levels: usize) -> bool
-    ensures* { λ r. ⌜ r ≡ value_well levels (non_empty value.now) ⌝ }
+    ensures { result ≡ value_well levels (non_empty value.now) }
 {
     if value.len() == 0 {
         return true;
@@ -38,7 +39,7 @@ fn is_well(value: &[u8], levels: usize) -> bool
 }
 
 // What a request asks of its value: whether it is well-formed as many levels down as it stands, what it is at the full levels, and where it is at fault.
-#[derive(Drop)]
+#[derive(Clone, Copy)]
 pub(crate) struct ValueCheck {
     pub fits: bool,
     pub finding: Finding,
@@ -46,8 +47,9 @@ pub(crate) struct ValueCheck {
 }
 
 // A value is walked again, at the full levels, only where it is not well-formed as many levels down as it stands.
+#[tactic(auto, using(crate::proofs::PartAnswers::value_fits, crate::proofs::PartAnswers::value_fits_not))]
 pub(crate) fn check_value(value: &[u8], most: usize) -> ValueCheck
-    ensures* { λ r. ⌜ ((down : ℕ) → most ≡ levels - down → ValueChecked down value.now r) ⌝ }
+    ensures { (down : ℕ) → most ≡ levels - down → ValueChecked down value.now result }
 {
     if is_well(value, most) {
         return ValueCheck {
@@ -66,7 +68,7 @@ pub(crate) fn check_value(value: &[u8], most: usize) -> ValueCheck
 
 // Whether an APDU of so many octets is past the limits, `fits` saying whether its value is well-formed as many levels down as it stands.
 fn is_large(fits: bool, size: usize) -> bool
-    ensures* { λ r. ⌜ r ≡ not (leb size octets && fits) ⌝ }
+    ensures { result ≡ not (leb size octets && fits) }
 {
     !((size <= State::OCTETS) & fits)
 }
@@ -86,7 +88,7 @@ pub(crate) fn check_invoke(
     rests: bool,
     room: usize,
 ) -> Verdict
-    ensures* { λ r. ⌜ ((s : Held) (lengths highs lows : List ℕ) → Opens table.now (with_own_side s (lent count ids.now lengths highs lows)) (length (view (lent count ids.now lengths highs lows))) (found_by (read_peer_link linked) (peer_records s)) opened → PlaceOf table.now Operations code place → ValueChecked in_apdu value.now checked → rests ≡ among id.0 (resting_ids s) → Judged table.now (with_own_side s (lent count ids.now lengths highs lows)) (invoke id.0 code (read_peer_link linked) value.now room) r) ⌝ }
+    ensures { (s : Held) (lengths highs lows : List ℕ) → Opens table.now (with_own_side s (lent count ids.now lengths highs lows)) (length (view (lent count ids.now lengths highs lows))) (found_by (read_peer_link linked) (peer_records s)) opened → PlaceOf table.now Operations code place → ValueChecked in_apdu value.now checked → rests ≡ among id.0 (resting_ids s) → Judged table.now (with_own_side s (lent count ids.now lengths highs lows)) (invoke id.0 code (read_peer_link linked) value.now room) result }
 {
     let named = operation_in(table, place);
     let fits = checked.fits;
@@ -119,7 +121,7 @@ pub(crate) fn check_result(
     checked: ValueCheck,
     room: usize,
 ) -> Verdict
-    ensures* { λ r. ⌜ ((s : Held) (asked : ℕ) → Opens table.now s asked (lookup id.0 (peer_records s)) opened → ValueChecked in_body value.now checked → Judged table.now s (result id.0 value.now room) r) ⌝ }
+    ensures { (s : Held) (asked : ℕ) → Opens table.now s asked (lookup id.0 (peer_records s)) opened → ValueChecked in_body value.now checked → Judged table.now s (result_call id.0 value.now room) result }
 {
     let found = opened.found;
     let named = operation_at(table, opened.entry);
@@ -147,7 +149,7 @@ pub(crate) fn check_error(
     checked: ValueCheck,
     room: usize,
 ) -> Verdict
-    ensures* { λ r. ⌜ ((s : Held) (asked : ℕ) → Opens table.now s asked (lookup id.0 (peer_records s)) opened → ValueChecked in_apdu value.now checked → Judged table.now s (error id.0 code value.now room) r) ⌝ }
+    ensures { (s : Held) (asked : ℕ) → Opens table.now s asked (lookup id.0 (peer_records s)) opened → ValueChecked in_apdu value.now checked → Judged table.now s (error id.0 code value.now room) result }
 {
     let found = opened.found;
     let used = operation_at(table, opened.entry);
@@ -172,13 +174,13 @@ pub(crate) fn check_error(
 }
 
 fn is_user_problem(problem: u8) -> bool
-    ensures* { λ r. ⌜ r ≡ is_user_problem problem ⌝ }
+    ensures { result ≡ is_user_problem problem }
 {
     (problem == 2) | ((problem == 3) | (problem == 4))
 }
 
 pub(crate) fn check_reject(opened: Opening, id: PeerId, problem: u8, room: usize) -> Verdict
-    ensures* { λ r. ⌜ ((T : List ℕ) (s : Held) (asked : ℕ) → Opens T s asked (lookup id.0 (peer_records s)) opened → Judged T s (reject id.0 problem room) r) ⌝ }
+    ensures { (T : List ℕ) (s : Held) (asked : ℕ) → Opens T s asked (lookup id.0 (peer_records s)) opened → Judged T s (reject id.0 problem room) result }
 {
     let size = reject_size(Number::Of(id.0));
     let verdict = opened.verdict;

@@ -1,7 +1,7 @@
 // The four requests: document 01, 'Requests, in order of check'.
 ghost use Rattle.std.specs.Prelude.{[], length};
 ghost use Rattle.apdu.specs.Reading.{read_peer_link};
-ghost use Rattle.protocol.specs.Call.{invoke, result, error, reject};
+ghost use Rattle.protocol.specs.Call.{invoke, result as result_call, error, reject};
 ghost use Rattle.protocol.specs.Perform.{perform};
 ghost use Rattle.protocol.specs.Reading.{RequestPromise};
 
@@ -31,7 +31,7 @@ pub fn invoke(
     value: &[u8],
     out: &mut [u8],
 ) -> Requested
-    ensures* { λ r. ⌜ RequestPromise (perform table.now (record { state = state; store = store.now }) (invoke id.0 code (read_peer_link linked) value.now (length out.old))) (record { state = state; store = store.now }) store.now value.now out.old out.new r ⌝ }
+    ensures { RequestPromise (perform table.now (record { state = state; store = store.now }) (invoke id.0 code (read_peer_link linked) value.now (length out.old))) (record { state = state; store = store.now }) store.now value.now out.old out.new result }
 {
     let opened = opening_of(
         state.own.count,
@@ -89,7 +89,7 @@ pub fn result(
     value: &[u8],
     out: &mut [u8],
 ) -> Requested
-    ensures* { λ r. ⌜ RequestPromise (perform table.now (record { state = state; store = store.old }) (result id.0 value.now (length out.old))) (record { state = state; store = store.old }) store.new value.now out.old out.new r ⌝ }
+    ensures { RequestPromise (perform table.now (record { state = state; store = store.old }) (result_call id.0 value.now (length out.old))) (record { state = state; store = store.old }) store.new value.now out.old out.new result }
 {
     let opened = opening_of(
         state.own.count,
@@ -136,7 +136,7 @@ pub fn error(
     value: &[u8],
     out: &mut [u8],
 ) -> Requested
-    ensures* { λ r. ⌜ RequestPromise (perform table.now (record { state = state; store = store.old }) (error id.0 code value.now (length out.old))) (record { state = state; store = store.old }) store.new value.now out.old out.new r ⌝ }
+    ensures { RequestPromise (perform table.now (record { state = state; store = store.old }) (error id.0 code value.now (length out.old))) (record { state = state; store = store.old }) store.new value.now out.old out.new result }
 {
     let opened = opening_of(
         state.own.count,
@@ -181,7 +181,7 @@ pub fn reject(
     problem: u8,
     out: &mut [u8],
 ) -> Requested
-    ensures* { λ r. ⌜ RequestPromise (perform table.now (record { state = state; store = store.now }) (reject id.0 problem (length out.old))) (record { state = state; store = store.now }) store.now [] out.old out.new r ⌝ }
+    ensures { RequestPromise (perform table.now (record { state = state; store = store.now }) (reject id.0 problem (length out.old))) (record { state = state; store = store.now }) store.now [] out.old out.new result }
 {
     let opened = opening_of(
         state.own.count,

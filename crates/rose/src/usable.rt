@@ -21,7 +21,7 @@ use records::lent::{live, own_found, peer_found, sound};
 use records::{Found, OwnId, PeerId, State, answers, rest};
 
 // The record that a call asks for: of an invocation that this end made, or received, or none.
-#[derive(Drop)]
+#[derive(Clone, Copy)]
 pub(crate) enum Sought {
     Own(OwnId),
     Peer(PeerId),
@@ -59,7 +59,7 @@ fn record_of<'a>(
 
 // The verdict on 19 and 1, and the record that was sought; where they pass, also whether one of the records asked for it is of class 1, and
 // where the operation of the record that was found stands.
-#[derive(Drop)]
+#[derive(Clone, Copy)]
 pub(crate) struct Opening {
     pub verdict: Verdict,
     pub found: Found,
@@ -226,6 +226,7 @@ pub(crate) fn is_no_child(table: &[u8], linked: bool, parent: u16, child: Place)
 }
 
 // Whether an answer to an operation, which stands at `entry`, is kept, by a valid table.
+#[tactic(auto, using(optable::proofs::TableLaws::idempotent_there), unfolding(protocol::specs::Service::keeps_answers))]
 pub(crate) fn keeps_answers(table: &[u8], entry: u16, code: Code) -> bool
     ensures { PlaceOf table.now Operations code (At entry) → valid table.now ≡ true → result ≡ keeps_answers table.now code }
 {
@@ -233,6 +234,7 @@ pub(crate) fn keeps_answers(table: &[u8], entry: u16, code: Code) -> bool
 }
 
 // Whether a class that makes a record finds its side full.
+#[tactic(auto, using(records::proofs::Steps::live_length))]
 pub(crate) fn lacks_room(class: u8, count: usize, ids: &[u32; State::RECORDS]) -> bool
     ensures { (lengths highs lows : List ℕ) → result ≡ (not (eqb class 5) && is_full (view (lent count ids.now lengths highs lows))) }
 {

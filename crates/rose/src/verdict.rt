@@ -7,7 +7,7 @@ ghost use Rattle.rose.specs.Steps.{one_more, is_number};
 use protocol::Refusal;
 
 // The number of the first check that fails, if one does: a refusal's, or a problem's of a received APDU.
-#[derive(Drop)]
+#[derive(Clone, Copy)]
 pub(crate) enum Verdict {
     Passes,
     Fails(u8),
@@ -15,6 +15,7 @@ pub(crate) enum Verdict {
 
 impl Verdict {
     // This verdict, or, where it passes, that of one check more.
+    #[tactic(auto, unfolding(crate::specs::Steps::one_more))]
     pub(crate) fn then(self, fails: bool, number: u8) -> Verdict
         ensures { result ≡ one_more self fails number }
     {
@@ -38,6 +39,7 @@ pub(crate) fn names_place(number: u8) -> bool
 }
 
 // The refusal of a number.
+#[tactic(auto, using(crate::proofs::Verdicts::number_rest), unfolding(protocol::specs::Reading::read_refusal))]
 pub(crate) fn refusal(number: u8) -> Refusal
     ensures { is_number number ≡ true → read_refusal result ≡ plain number }
 {

@@ -12,7 +12,7 @@ use records::State;
 use records::lent::{code_at, live};
 
 // What one walk over the live records of both sides tells.
-#[derive(Drop)]
+#[derive(Clone, Copy)]
 pub(crate) struct Walk {
     // The table has the code of each.
     pub covered: bool,
@@ -33,7 +33,8 @@ fn code_of<'a>(
     peer_lows: &'a [u64; State::RECORDS],
     i: usize,
 ) -> Code
-    requires { (own ≤ records) × (i < own + records) }
+    requires own_fits { own ≤ records }
+    requires within { i < own + records }
     ensures { result ≡ code_of (cond (ltb i own) (name_in own_lengths.now own_highs.now own_lows.now i) (name_in peer_lengths.now peer_highs.now peer_lows.now (i - own))) }
 {
     if i < own {
@@ -43,6 +44,7 @@ fn code_of<'a>(
 }
 
 // Whether the operation at entry `i` is of class 1, if that is asked.
+#[tactic(auto, unfolding(optable::specs::Read::operation_at))]
 fn is_synchronous(table: &[u8], asked: bool, i: u16) -> bool
     ensures { result ≡ (asked && eqb (class_at table.now i) 1) }
 {

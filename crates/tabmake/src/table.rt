@@ -9,7 +9,7 @@ use optable::{Edition, Part, Rule};
 use text::{put, words};
 
 // Where the table's entries end, and what is wrong with the line that was taken last.
-#[derive(Drop)]
+#[derive(Clone, Copy)]
 pub(crate) struct Taken {
     pub(crate) end: usize,
     pub(crate) reason: Reason,
@@ -51,19 +51,16 @@ fn listed_at(table: &[u8], part: Part, i: u16) -> Code {
 
 // Where a code stands among the entries of a part that is written.
 fn index_of(table: &[u8], part: Part, code: Code) -> Place {
-    let n = count(table, part);
-    let mut i: u16 = 0;
-    while i < n {
+    for i in 0..count(table, part) {
         if listed_at(table, part, i).same(code) {
             return Place::At(i);
         }
-        i += 1;
     }
     Place::Nowhere
 }
 
 // How a code is to stand in an entry, where its name has a line.
-#[derive(Drop)]
+#[derive(Clone, Copy)]
 enum Keyed {
     As(Key),
     Nowhere,

@@ -24,7 +24,7 @@ sets_append o at (b ∷ e) f =
     sets_append (set o at b) (suc at) e f ∙ ap (λ (n : ℕ). sets (sets (set o at b) (suc at) e) n f) q
 
 -- beyond the end nothing is stored
-sets_beyond : (o : List ℕ) (at : ℕ) (e : List ℕ) → length o ≤ at → sets o at e ≡ o
+pub sets_beyond : (o : List ℕ) (at : ℕ) (e : List ℕ) → length o ≤ at → sets o at e ≡ o
 sets_beyond o at [] h = refl
 sets_beyond o at (b ∷ e) h =
     let q : set o at b ≡ o = set_out o at b h in
@@ -71,12 +71,13 @@ pub each_self : (s : List ℕ) → each (λ b. b ∷ []) s ≡ s
 each_self [] = refl
 each_self (b ∷ s) = ap (λ (u : List ℕ). b ∷ u) (each_self s)
 
+-- the text of one octet more
+pub each_more : (f : ℕ → List ℕ) (s : List ℕ) (i : ℕ) → i < length s → each f (take i s) ++ f (get_or s i 0) ≡ each f (take (i + 1) s)
+each_more f s i h = ap (λ (u : List ℕ). each f (take i s) ++ u) (sym (each_one f (get_or s i 0))) ∙ sym (each_append f (take i s) (get_or s i 0 ∷ [])) ∙ ap (each f) (sym (take-suc s i 0 h)) ∙ ap (λ (n : ℕ). each f (take n s)) (sym (add-one i))
+
 -- one turn of a loop over s
 pub said_next : (f : ℕ → List ℕ) {l : List ℕ} {at : ℕ} (s : List ℕ) (i : ℕ) {p : List ℕ} {r : ℕ} {q : List ℕ} {k : ℕ} → i < length s → Said l at (each f (take i s)) p r → Said p r (f (get_or s i 0)) q k → Said l at (each f (take (i + 1) s)) q k
-said_next f {l} {at} s i h x y = said_as same (said_said x y)
-  where
-    same : each f (take i s) ++ f (get_or s i 0) ≡ each f (take (i + 1) s)
-    same = ap (λ (u : List ℕ). each f (take i s) ++ u) (sym (each_one f (get_or s i 0))) ∙ sym (each_append f (take i s) (get_or s i 0 ∷ [])) ∙ ap (each f) (sym (take-suc s i 0 h)) ∙ ap (λ (n : ℕ). each f (take n s)) (sym (add-one i))
+said_next f {l} {at} s i h x y = said_as (each_more f s i h) (said_said x y)
 
 -- ---- digits
 

@@ -1,4 +1,5 @@
--- What is to be believed of text: what is put into a line, and what hexadecimal text says. Steps only serves proofs.
+-- What is to be believed of text: what is put into a line and put out, and what hexadecimal text says. Steps only serves proofs.
 pub mod Text
 pub mod Hex
+pub mod Out
 pub mod Steps

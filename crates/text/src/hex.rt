@@ -6,7 +6,7 @@ ghost use Rattle.text.specs.Steps.{Sound, Stepped};
 
 // How many octets the text says, or what is wrong with it: the place of a character that cannot stand there, an octet at its end with
 // one digit only, more octets than fit.
-#[derive(Drop)]
+#[derive(Clone, Copy)]
 pub enum Hex {
     Of(usize),
     NoDigit(usize),
@@ -15,7 +15,7 @@ pub enum Hex {
 }
 
 // What stands before the next character: whole octets, a #, the first digit of an octet, or what is wrong.
-#[derive(Drop)]
+#[derive(Clone, Copy)]
 pub(crate) enum Phase {
     Between,
     Comment,
@@ -23,7 +23,7 @@ pub(crate) enum Phase {
     Wrong(Hex),
 }
 
-#[derive(Drop)]
+#[derive(Clone, Copy)]
 pub(crate) struct Reading {
     pub(crate) phase: Phase,
     pub(crate) count: usize,

@@ -1,14 +1,21 @@
 // Words, numbers and octets as text: each function puts its text into a line at a place and answers the place behind it.
 // What does not fit is left out.
+#![tactic(auto)]
+
 pub mod fault;
 pub mod hex;
+pub mod input;
 pub mod item;
 pub mod out;
 pub mod problem;
 
-ghost use Rattle.std.specs.Prelude.{◌≡◌, [], ◌∷◌, ◌<◌};
+ghost use Rattle.std.specs.Prelude.{◌≡◌, [], ◌∷◌, ◌<◌, take};
 ghost use Rattle.io.specs.Digits.{hex_digit_ascii};
+ghost use Rattle.text.specs.Out.{Adds};
 ghost use Rattle.text.specs.Text.{Said, hex_octet, hex_octets, spaced_octets, eight_digits, decimal_digits, signed_digits};
+
+use out::Out;
+use std::io::Write;
 
 pub fn put(line: &mut [u8], at: usize, b: u8) -> usize
     ensures { Said line.old at (b ∷ []) line.new result }
@@ -98,11 +105,15 @@ pub fn signed(line: &mut [u8], at: usize, bits: u32) -> usize
     decimal(line, a, 0x1_0000_0000 - bits as u64)
 }
 
-// Writes a line up to a place to a file descriptor, 1 for standard output and 2 for standard error, and answers whether all was written.
-// No contract can say what a file descriptor is given: it is proved that this is safe and ends.
-pub fn print(fd: i32, line: &[u8], end: usize) -> bool {
+// Puts a line up to a place out, and answers whether all that was put out so far is written or kept.
+pub fn print(out: &mut Out<impl Write>, line: &[u8], end: usize) -> bool
+    ensures added { Adds out.old (take end line.now) out.new }
+    ensures whole { result ≡ out.new.whole }
+{
     if end <= line.len() {
-        return io::write_all(fd, &line[0..end]);
+        out::words(out, &line[0..end]);
+    } else {
+        out::words(out, line);
     }
-    io::write_all(fd, line)
+    out.is_whole()
 }

@@ -1,0 +1,9 @@
+use Rattle.std.proofs.Common.{◌≤◌, ◌-◌, length, take}
+use Rattle.std.specs.Io.KnownBytes.{Consumes}
+use Rattle.text.proofs.input.read_full.Given as goal
+
+abbrev pub invariant-loop-end : goal.invariant-loop-end
+invariant-loop-end g l = record { within : l.end ≤ length l.buffer; octets : Consumes (g.R.Read.remaining l.fn.input) (g.R.Read.remaining l.input) (take l.end l.buffer) }
+
+abbrev pub decreases-loop-end : goal.decreases-loop-end
+decreases-loop-end g l = length l.buffer - l.end

@@ -1,0 +1,8 @@
+-- What was put out is the text of the octets passed.
+use Rattle.std.proofs.Common.{◌∷◌, take}
+use Rattle.text.specs.Text.{each, hex_octet}
+use Rattle.text.specs.Out.{Adds}
+use Rattle.text.proofs.out.octets.Given as goal
+
+abbrev pub invariant-loop-i : goal.invariant-loop-i
+invariant-loop-i g l = Adds l.fn.out (each (λ b. 32 ∷ hex_octet b) (take l.i l.s)) l.out
