@@ -1,4 +1,4 @@
-# make demo: proves the library and runs a kiosk and a controller; rt try in crates/demo runs them in seconds, with nothing proved.
+# make demo: proves the library and runs a kiosk and a controller; rt try in crates/demo runs them in half a minute, with nothing proved.
 # make test: the gate, .ci/run. Its last line is rt ci's 'N passed, 0 failed'; on a failure it is 'gate: failed'.
 # make bench: measures the calls and a replay beside the second program's; it also needs valgrind and python3.
 SHELL := bash
@@ -15,7 +15,7 @@ demo:
 	log=$$(mktemp)
 	trap 'rm -f "$$log"' EXIT
 	echo "make demo: each crate is proved before demo is built, which takes a while the first time; the next time it starts at once."
-	echo "To look first: crates/demo/stdout is what it prints, and rt try in crates/demo runs it in seconds, with nothing proved."
+	echo "To look first: crates/demo/stdout is what it prints, and rt try in crates/demo runs it in half a minute, with nothing proved."
 	cd crates/demo
 	rt check 2>&1 | tee "$$log" | { grep --line-buffered '^crate ' || true; } || { cat "$$log"; echo "make demo: failed"; exit 1; }
 	echo

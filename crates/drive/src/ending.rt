@@ -124,7 +124,7 @@ pub(crate) fn line_buffer() -> [u8; 300000]
     [0; 300000]
 }
 
-// Ends the line of a call whose answer stands before `at`, and writes it to standard output.
+// Ends the line of a call whose answer stands before `at`, and puts it out.
 pub(crate) fn emit(
     to: &mut Out<impl Write>,
     line: &mut [u8],

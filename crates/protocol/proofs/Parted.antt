@@ -53,21 +53,21 @@ unfoldable pub first_end : List ℕ → ℕ
 first_end x = end_by x (header_of x)
 
 -- at most n elements from the front of the octets on; no octets hold none
-abbrev pub parted_in_lem : ℕ → List ℕ → List (List ℕ)
-parted_in_lem zero x = []
-parted_in_lem (suc n) [] = []
-parted_in_lem (suc n) (b ∷ x) = take (first_end (b ∷ x)) (b ∷ x) ∷ parted_in_lem n (drop (first_end (b ∷ x)) (b ∷ x))
+abbrev pub parted_within : ℕ → List ℕ → List (List ℕ)
+parted_within zero x = []
+parted_within (suc n) [] = []
+parted_within (suc n) (b ∷ x) = take (first_end (b ∷ x)) (b ∷ x) ∷ parted_within n (drop (first_end (b ∷ x)) (b ∷ x))
 
 -- each element has an octet, so that there are at most as many as octets
 unfoldable pub parted : List ℕ → List (List ℕ)
-parted x = parted_in_lem (length x) x
+parted x = parted_within (length x) x
 
 -- octets whose length says where they end, whatever stands behind them
 record Delimited (x : List ℕ) : Type 0 where
   some : 0 < length x
   ends : (y : List ℕ) → first_end (x ++ y) ≡ length x
 
-parted_in : (n : ℕ) (l : List (List ℕ)) → Each Delimited l → length (end_to_end l) ≤ n → parted_in_lem n (end_to_end l) ≡ l
+parted_in : (n : ℕ) (l : List (List ℕ)) → Each Delimited l → length (end_to_end l) ≤ n → parted_within n (end_to_end l) ≡ l
 parted_in zero [] d h = refl
 parted_in (suc n) [] d h = refl
 parted_in zero (x ∷ l) d h = absurd (omega (arith, length-append x (end_to_end l), d.0.some))

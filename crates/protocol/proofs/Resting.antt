@@ -27,17 +27,17 @@ use Rattle.protocol.specs.Perform.{checks, without_peer, done, perform}
 use Rattle.protocol.proofs.Checks.{settle}
 
 -- the ids that rest after a call, by whether it was refused
-abbrev pub resting_after_lem : Call → Bool → Resting → Resting
-resting_after_lem (forget own i) refused r = cond refused r (rested r i)
-resting_after_lem (forget peer i) refused r = r
-resting_after_lem (receive x room) refused r = r
-resting_after_lem (invoke i c l v room) refused r = r
-resting_after_lem (result i v room) refused r = r
-resting_after_lem (error i e v room) refused r = r
-resting_after_lem (reject i p room) refused r = r
+abbrev pub rested_after : Call → Bool → Resting → Resting
+rested_after (forget own i) refused r = cond refused r (rested r i)
+rested_after (forget peer i) refused r = r
+rested_after (receive x room) refused r = r
+rested_after (invoke i c l v room) refused r = r
+rested_after (result i v room) refused r = r
+rested_after (error i e v room) refused r = r
+rested_after (reject i p room) refused r = r
 
 -- a refused call leaves them alone
-refused_alone : (c : Call) (r : Resting) → r ≡ resting_after_lem c true r
+refused_alone : (c : Call) (r : Resting) → r ≡ rested_after c true r
 refused_alone (forget own i) r = refl
 refused_alone (forget peer i) r = refl
 refused_alone (receive x room) r = refl
@@ -77,7 +77,7 @@ module _ (T : List ℕ) (s : Held) where
   answered_alone true l t h = h
   answered_alone false l t h = h
 
-  done_resting : (c : Call) → (held_after s (done T s c)).state.resting ≡ resting_after_lem c (is_refused (done T s c)) s.state.resting
+  done_resting : (c : Call) → (held_after s (done T s c)).state.resting ≡ rested_after c (is_refused (done T s c)) s.state.resting
   unfolding done
   done_resting (receive x room) = received_alone x (parse x)
   done_resting (invoke i c l v room) = cond_elim Same (is_silent T c) s (in_state s (add_own s.state (record { 0 = i }) c)) (λ _. refl) (λ _. refl)
@@ -87,7 +87,7 @@ module _ (T : List ℕ) (s : Held) where
   done_resting (forget own i) = refl
   done_resting (forget peer i) = refl
 
-  pub resting_after : (c : Call) → (held_after s (perform T s c)).state.resting ≡ resting_after_lem c (is_refused (perform T s c)) s.state.resting
+  pub resting_after : (c : Call) → (held_after s (perform T s c)).state.resting ≡ rested_after c (is_refused (perform T s c)) s.state.resting
   unfolding perform
   resting_after c =
-      settle (λ a. (held_after s a).state.resting ≡ resting_after_lem c (is_refused a) s.state.resting) (checks T s c) (done T s c) (λ _. refused_alone c s.state.resting) (λ _. done_resting c)
+      settle (λ a. (held_after s a).state.resting ≡ rested_after c (is_refused a) s.state.resting) (checks T s c) (done T s c) (λ _. refused_alone c s.state.resting) (λ _. done_resting c)

@@ -1,4 +1,5 @@
-// What the six calls answer: document 01's indications and refusals. The calls' definitions stand in specs/, demand 3 in proofs/.
+// What the six calls answer: document 01's indications and refusals. The calls' definitions stand in specs/, and what holds of them are the
+// contracts of the three functions at the end.
 #![tactic(auto)]
 
 ghost use Rattle.std.specs.Prelude.{◌≡◌};
@@ -185,17 +186,17 @@ pub struct Requested {
     pub written: usize,
 }
 
-// Demand 3 holds of the definitions that the calls keep to.
-pub fn demand_3()
+// What the kiosk shows is what the controller gave, and is shown once, whatever the channel loses, repeats or reorders.
+pub fn shown_was_given()
     ensures { Demand3 }
 {}
 
-// The marked examples P1 to P12 hold of them.
+// The marked examples are answered as they are marked.
 pub fn marked_examples()
     ensures { MarkedHold }
 {}
 
-// One end, call after call from a fresh state, is never refused with 19 or 1.
-pub fn one_end()
+// With one valid table each call of an end, from a fresh state on, is made on a sound state that the table covers: never a refusal 19 or 1.
+pub fn one_end_stays_sound()
     ensures { OneEnd }
 {}

@@ -95,7 +95,7 @@ fn put_operation(
     code: Code,
     class: u8,
     argument: Rule,
-    res: Rule,
+    result_rule: Rule,
     idempotent: bool,
 ) -> Taken {
     let Keyed::As(key) = key_of(table, code) else {
@@ -104,8 +104,8 @@ fn put_operation(
     let a = four(table, at, key.number);
     let b = put(table, a, class);
     let c = put(table, b, argument.identifier);
-    let d = put(table, c, res.identifier);
-    let optional = flag(argument.optional, 1) + flag(res.optional, 2);
+    let d = put(table, c, result_rule.identifier);
+    let optional = flag(argument.optional, 1) + flag(result_rule.optional, 2);
     let flags = optional + flag(key.named, 4) + flag(idempotent, 8);
     ended(put(table, d, flags))
 }

@@ -131,6 +131,29 @@ mod tests {
         assert_eq!(rt; read_full(&mut input, &mut buffer), 0);
     }
 
+    // It gives one octet at a time, as a terminal or a pipe may.
+    #[derive(Drop)]
+    struct Slow<'a> {
+        left: &'a [u8],
+    }
+
+    impl Read for Slow<'_> {
+        fn read(&mut self, buf: &mut [u8]) -> Result<usize> {
+            let n = buf.len().min(1);
+            self.left.read(&mut buf[..n])
+        }
+    }
+
+    #[test]
+    fn reads_on_where_a_read_gives_less(rt: HostRuntime) {
+        let mut input = Slow { left: b"abcde" };
+        let mut buffer = [0u8; 3];
+        assert_eq!(rt; read_full(&mut input, &mut buffer), 3);
+        assert!(rt; buffer == *b"abc");
+        assert_eq!(rt; read_full(&mut input, &mut buffer), 2);
+        assert!(rt; buffer == *b"dec");
+    }
+
     #[test]
     fn says_why_a_file_is_not_there(rt: HostRuntime) {
         let mut taken: Vec<u8> = Vec::new(rt.alloc());

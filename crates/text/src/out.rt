@@ -1,9 +1,9 @@
 // Words, numbers and octets written as text to a writer, as standard output or standard error.
-// Text is kept in a buffer until its line ends, and written then: no line asks for memory.
+// Text is kept in a buffer until one ends with a line end, or does not fit, and written then: none asks for memory.
 ghost use Rattle.std.specs.Prelude.{◌≡◌, ℕ, ◌≤◌, ◌↔◌, IsTrue, Bool, true, List, [], ◌∷◌, take};
 ghost use Rattle.std.specs.Io.KnownBytes.{Appends};
 ghost use Rattle.text.specs.Text.{hex_octet, spaced_octets, decimal_digits, signed_digits, item_of};
-ghost use Rattle.text.specs.Out.{Put, Adds, AddsWords, EndsLine};
+ghost use Rattle.text.specs.Out.{Put, Adds, AddsWords, EndsLine, Fits, kept_behind};
 
 use crate::item::item;
 use crate::problem::problem;
@@ -47,7 +47,7 @@ impl<W: Write> Out<W> {
         self.whole
     }
 
-    // Writes what is kept.
+    // Gives the writer what is kept. What the writer keeps itself stays there.
     pub fn flush(&mut self)
         ensures added { Adds self.old [] self.new }
         ensures written { self.new.kept ≡ [] }
@@ -60,7 +60,9 @@ impl<W: Write> Out<W> {
 
     // Keeps text, or writes it where there is no room for it behind what is kept.
     fn keep(&mut self, s: &[u8])
-        ensures { Adds self.old s.now self.new }
+        ensures added { Adds self.old s.now self.new }
+        ensures kept { Fits self.old s.now → self.new ≡ kept_behind self.old s.now }
+        ensures given { (Fits self.old s.now → ⊥) → self.new.kept ≡ [] }
     {
         let end = self.end;
         if s.len() <= 4096 - end {
@@ -82,6 +84,7 @@ fn ends_line(s: &[u8]) -> bool
 
 pub fn words(out: &mut Out<impl Write>, s: &[u8])
     ensures added { Adds out.old s.now out.new }
+    ensures kept { Fits out.old s.now → (EndsLine s.now → ⊥) → out.new ≡ kept_behind out.old s.now }
     ensures written { EndsLine s.now → out.new.kept ≡ [] }
 {
     out.keep(s);
@@ -132,7 +135,7 @@ pub fn octets(out: &mut Out<impl Write>, s: &[u8])
     }
 }
 
-// Item n of a list of names with a bar between each and the next, of at most 64 octets.
+// The first 64 octets of item n of a list of names with a bar between each and the next.
 pub fn name(out: &mut Out<impl Write>, list: &[u8], n: usize)
     ensures { Adds out.old (take 64 (item_of n list.now)) out.new }
 {
@@ -156,7 +159,7 @@ mod tests {
     use std::io::{Error, ErrorKind, Result};
 
     #[test]
-    fn a_line_is_written_when_it_ends(rt: HostRuntime) -> Result<()> {
+    fn a_line_is_written_when_it_ends(rt: HostRuntime) {
         let mut taken: Vec<u8> = Vec::new(rt.alloc());
         let mut out = Out::new(&mut taken);
         words(&mut out, b"at ");
@@ -168,7 +171,6 @@ mod tests {
         assert!(rt; out.is_whole());
         drop(out);
         assert!(rt; taken.as_slice() == b"at 18446744073709551615-2147483648 00 ff\n".as_slice());
-        Ok(())
     }
 
     // It takes nothing once, and all from then on.
