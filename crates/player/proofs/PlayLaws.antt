@@ -21,7 +21,7 @@ use Rattle.protocol.specs.Perform.{perform}
 use Rattle.protocol.specs.Reading.{ReceivePromise}
 use Rattle.capture.specs.declared.Kind.{Kind}
 use Rattle.capture.specs.declared.Kind.TheVariants.{Received, Sent, Forget, Nothing}
-use Rattle.capture.specs.Format.{count, valid as validCapture}
+use Rattle.capture.specs.Format.{count, valid as valid_capture}
 use Rattle.capture.specs.declared.Entry.{Entry as Listed}
 use Rattle.capture.specs.Entry.{kind_at, octets_at, following}
 use Rattle.capture.proofs.Answers.{no_entry, one_following}
@@ -194,10 +194,10 @@ pub table_wrong : (T t : List ℕ) → valid T ≡ false → read_report Invalid
 unfolding read_report replay
 table_wrong T t e = rw e refl
 
-pub capture_wrong : (T t : List ℕ) → valid T ≡ true → validCapture t ≡ false → read_report MalformedCapture ≡ replay T t
+pub capture_wrong : (T t : List ℕ) → valid T ≡ true → valid_capture t ≡ false → read_report MalformedCapture ≡ replay T t
 unfolding read_report replay
 capture_wrong T t e f = rw (e, f) refl
 
-pub both_right : (T t : List ℕ) (r : Report) → valid T ≡ true → validCapture t ≡ true → read_report r ≡ play T t (count t) 0 fresh_held [] → read_report r ≡ replay T t
+pub both_right : (T t : List ℕ) (r : Report) → valid T ≡ true → valid_capture t ≡ true → read_report r ≡ play T t (count t) 0 fresh_held [] → read_report r ≡ replay T t
 unfolding replay
 both_right T t r e f g = rw (e, f) g

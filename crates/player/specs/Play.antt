@@ -12,7 +12,7 @@ use Rattle.protocol.specs.Call.{own, peer, Call, receive, invoke, result, error,
 use Rattle.protocol.specs.Perform.{perform}
 use Rattle.capture.specs.declared.Kind.{Kind}
 use Rattle.capture.specs.declared.Kind.TheVariants.{Received, Sent, Forget, Nothing}
-use Rattle.capture.specs.Format.{count, valid as validCapture}
+use Rattle.capture.specs.Format.{count, valid as valid_capture}
 use Rattle.capture.specs.Entry.{kind_at, octets_at, side_of, id_of}
 
 -- ---- the call that an entry fits, with room for any APDU
@@ -112,4 +112,4 @@ play T t (suc n) k s l = behind_step (λ s' l'. play T t n (k + 1) s' l') k (pla
 
 -- the table is checked first, 1, then the whole capture, 20, and only then is an entry played
 unfoldable pub replay : List ℕ → List ℕ → Verdict
-replay T t = cond (valid T) (cond (validCapture t) (play T t (count t) 0 fresh_held []) (refused_with 20)) (refused_with 1)
+replay T t = cond (valid T) (cond (valid_capture t) (play T t (count t) 0 fresh_held []) (refused_with 20)) (refused_with 1)

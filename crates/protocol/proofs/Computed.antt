@@ -16,8 +16,8 @@ use Rattle.base.specs.Count.{every, any}
 use Rattle.codes.specs.Code.{name_octets, name_contents, name_of, same_name, name_form, name_right, same_code, code_right}
 use Rattle.codes.specs.Count.{seek}
 use Rattle.codes.specs.Search.{key_here, key_in}
-use Rattle.records.specs.Records.{stored, is_local, code_of as codeStored}
-use Rattle.optable.specs.Read.{edition, count, start, entry_start, octet_at, key_at, name_here, name_at, code_of as codeHeld, code_at, idempotent_at, has_code, operation_at, error_at, first_at, second_at}
+use Rattle.records.specs.Records.{stored, is_local, code_of as code_stored}
+use Rattle.optable.specs.Read.{edition, count, start, entry_start, octet_at, key_at, name_here, name_at, code_of as code_held, code_at, idempotent_at, has_code, operation_at, error_at, first_at, second_at}
 use Rattle.optable.specs.Service.{service_of}
 use Rattle.optable.specs.Validity.{service_at, demands, service_right, partner_right, within_limit, behind, edition_right, filled, laid_out, rule_right, result_right, operation_right, error_right, pair_below, pair_right, allowed, above, rises, same_names, new_name, stands_right, key_right, fields_right, entry_right, part_right, valid}
 use Rattle.optable.specs.Lookup.{Extends, find, operation_in, idempotent_in, idempotent_of, operation_of, error_in, error_of, joins, joined, parent_at, has_child, room_needed}
@@ -63,7 +63,7 @@ pub record Computed : Type 0 where
   pub once_fetching : UsesIdsOnce (final table_f table_f (begin fresh_held) fetching)
 
 pub computed : Computed
-unfolding keeping view_kept pack_kept pack_store sound_kept service_of service_at demands service_right partner_right room_needed only_frame inside_at id_at about_in about reply probed acknowledged keeps_answers invoke_done answer_to name_octets name_contents name_of same_name name_form name_right same_code code_right key_here key_in stored is_local codeStored edition key_at name_here name_at codeHeld idempotent_at edition_right filled same_names new_name stands_right key_right idempotent_in idempotent_of same_rule same_operation same_error pair_in entry_in missing_at first_missing part_extension extension local_code name_code code_field pair_below pair_right result_right number_from digits continued one_of high_tag high_tag_octets identifier_octets length_of length_count length_octets header_with header_of shortest parts content_rule constructed closes found_behind behind_first elements_in filled_behind closed_behind made element_with element_of size_in size fills well_formed finding_with finding_in frame_with frame_of element_octets sign_of pattern integer_of fits_octets octet_count integer_octets every any seek count start entry_start octet_at code_at has_code operation_at error_at first_at second_at within_limit behind laid_out rule_right operation_right error_right allowed above rises fields_right entry_right part_right valid find operation_in operation_of error_in error_of joins joined parent_at has_child value_right fields_with fields_by fields_in number_of number_under is_code code_of coded_with coded_of linked_with linked_of invoke_with invoke_behind result_with result_behind error_behind most_problem is_problem id_allowed reject_with reject_behind reject_of behind_id with_id by_kind parse_at parse non_empty linked_field rejected_field value_field body_field encode_invoke encode_result encode_error encode_reject usable value_finding value_well within_limits fault invoke_checks result_checks error_checks receive_apdu later_checks done perform
+unfolding keeping view_kept pack_kept pack_store sound_kept service_of service_at demands service_right partner_right room_needed only_frame inside_at id_at about_in about reply probed acknowledged keeps_answers invoke_done answer_to name_octets name_contents name_of same_name name_form name_right same_code code_right key_here key_in stored is_local code_stored edition key_at name_here name_at code_held idempotent_at edition_right filled same_names new_name stands_right key_right idempotent_in idempotent_of same_rule same_operation same_error pair_in entry_in missing_at first_missing part_extension extension local_code name_code code_field pair_below pair_right result_right number_from digits continued one_of high_tag high_tag_octets identifier_octets length_of length_count length_octets header_with header_of shortest parts content_rule constructed closes found_behind behind_first elements_in filled_behind closed_behind made element_with element_of size_in size fills well_formed finding_with finding_in frame_with frame_of element_octets sign_of pattern integer_of fits_octets octet_count integer_octets every any seek count start entry_start octet_at code_at has_code operation_at error_at first_at second_at within_limit behind laid_out rule_right operation_right error_right allowed above rises fields_right entry_right part_right valid find operation_in operation_of error_in error_of joins joined parent_at has_child value_right fields_with fields_by fields_in number_of number_under is_code code_of coded_with coded_of linked_with linked_of invoke_with invoke_behind result_with result_behind error_behind most_problem is_problem id_allowed reject_with reject_behind reject_of behind_id with_id by_kind parse_at parse non_empty linked_field rejected_field value_field body_field encode_invoke encode_result encode_error encode_reject usable value_finding value_well within_limits fault invoke_checks result_checks error_checks receive_apdu later_checks done perform
 computed = record {
   marked = refl;
   run = refl;

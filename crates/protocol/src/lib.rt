@@ -186,7 +186,8 @@ pub struct Requested {
     pub written: usize,
 }
 
-// What the kiosk shows is what the controller gave, and is shown once, whatever the channel loses, repeats or reorders.
+// Of two valid tables, one of which extends the other, and of fair calls, as `Demand3` asks them: what the kiosk shows is what the controller gave,
+// and is shown once, whatever the channel loses, repeats or reorders.
 pub fn shown_was_given()
     ensures { Demand3 }
 {}

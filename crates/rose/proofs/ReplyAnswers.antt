@@ -5,7 +5,7 @@ use mathlib.Core.Bool.{true, false, false≢true}
 use mathlib.Core.List.{List, [], ◌∷◌, ◌++◌, append-nil}
 use mathlib.Core.Option.{Option}
 use native.Mathlib.Omega.{arith}
-use lib.ListN.{length, take, drop, get_or, length-append, get_or-eq_default as getD-behind}
+use lib.ListN.{length, take, drop, get_or, length-append, get_or-eq_default as get_or_behind}
 use Rattle.base.specs.Lists.{non_empty}
 use Rattle.base.specs.Octets.{part}
 use Rattle.base.proofs.Tests.{cond_true, cond_false}
@@ -138,7 +138,7 @@ kept_part s p from used e f =
 
 -- there is none behind the last place
 pub kept_nowhere : (s : Held) (p : ℕ) → length s.state.kept.lengths ≤ p → kept_at s p ≡ []
-kept_nowhere s p h = ap (λ (n : ℕ). take n (drop (answer_octets * p) s.store)) (getD-behind s.state.kept.lengths 0 h)
+kept_nowhere s p h = ap (λ (n : ℕ). take n (drop (answer_octets * p) s.store)) (get_or_behind s.state.kept.lengths 0 h)
 
 module _ (s : Held) (q : Reply) (before : List ℕ) where
   pub result_written : (i : PeerId) (c : Code) (n : ℕ) → q ≡ Replies i c n → (after : List ℕ) (k : ℕ) → WrittenWhole before (reply i.0 c n) after k → AllWritten (replied s q) before after k

@@ -4,7 +4,7 @@ use Rattle.std.specs.Io.KnownBytes.{Appends, append_known}
 use Rattle.std.specs.declared.option.Option.{Option}
 
 -- what the writer holds, where that is known, the text that it is still to be given, and whether nothing was lost: no law says when a writer fails, so
--- none says when this may be false
+-- none says when this becomes false where the writer is given something
 pub record Put : Type 0 where
   pub held : Option (List ℕ)
   pub kept : List ℕ
