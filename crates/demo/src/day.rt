@@ -95,13 +95,48 @@ fn with_result(to: &mut Out<impl Write>, day: Day, operation: Code, element: &[u
     with_value(to, day, element)
 }
 
+fn with_empty(to: &mut Out<impl Write>, mut day: Day) -> Day {
+    say(
+        to,
+        b"no reading: a result without a value is neither a reading nor an error",
+    );
+    day.empty = plus(day.empty, 1);
+    day
+}
+
+fn with_below(to: &mut Out<impl Write>, mut day: Day) -> Day {
+    say(to, b"no reading: below detection, and never a zero");
+    day.below = plus(day.below, 1);
+    day
+}
+
+fn indicated(to: &mut Out<impl Write>, mut day: Day, x: &[u8], said: Indication) -> Day {
+    match said {
+        Indication::Result {
+            body,
+            operation,
+            ..
+        } => match body {
+            Body::Of { value, .. } => with_result(to, day, operation, octets_of(x, value)),
+            Body::Absent => with_empty(to, day),
+        },
+        Indication::Error { code, .. } => {
+            if !code.same(Code::Local(1)) {
+                return with_unknown(to, day);
+            }
+            with_below(to, day)
+        }
+        Indication::InvokeRejected { .. } => {
+            say(to, b"no reading: the invocation is not understood");
+            day.unknown = plus(day.unknown, 1);
+            day
+        }
+        _ => with_unknown(to, day),
+    }
+}
+
 // The record after an answer: a refused one changes nothing.
-pub(crate) fn recorded(
-    to: &mut Out<impl Write>,
-    mut day: Day,
-    x: &[u8],
-    reception: Reception,
-) -> Day {
+pub(crate) fn recorded(to: &mut Out<impl Write>, day: Day, x: &[u8], reception: Reception) -> Day {
     match reception {
         Reception::Refused(_) => {
             say(to, b"nothing, since the answer is refused");
@@ -111,37 +146,7 @@ pub(crate) fn recorded(
             say(to, b"nothing, since the library answered");
             day
         }
-        Reception::Indicated(said) => match said {
-            Indication::Result {
-                body,
-                operation,
-                ..
-            } => match body {
-                Body::Of { value, .. } => with_result(to, day, operation, octets_of(x, value)),
-                Body::Absent => {
-                    say(
-                        to,
-                        b"no reading: a result without a value is neither a reading nor an error",
-                    );
-                    day.empty = plus(day.empty, 1);
-                    day
-                }
-            },
-            Indication::Error { code, .. } => {
-                if !code.same(Code::Local(1)) {
-                    return with_unknown(to, day);
-                }
-                say(to, b"no reading: below detection, and never a zero");
-                day.below = plus(day.below, 1);
-                day
-            }
-            Indication::InvokeRejected { .. } => {
-                say(to, b"no reading: the invocation is not understood");
-                day.unknown = plus(day.unknown, 1);
-                day
-            }
-            _ => with_unknown(to, day),
-        },
+        Reception::Indicated(said) => indicated(to, day, x, said),
     }
 }
 

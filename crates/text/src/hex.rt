@@ -45,6 +45,7 @@ pub(crate) fn is_blank(c: u8) -> bool
 }
 
 // The digit that a character is, or 16.
+#[tactic(auto, unfolding(crate::specs::Hex::digit_of))]
 fn digit_of(c: u8) -> u8
     ensures { result ≡ digit_of c }
 {
@@ -69,6 +70,7 @@ fn digit_of(c: u8) -> u8
     16
 }
 
+#[tactic(auto, unfolding(crate::specs::Hex::between))]
 fn after_octets(place: usize, c: u8) -> Phase
     ensures { result ≡ between place c }
 {
@@ -85,6 +87,7 @@ fn after_octets(place: usize, c: u8) -> Phase
     Phase::Wrong(Hex::NoDigit(place))
 }
 
+#[tactic(auto, unfolding(crate::specs::Hex::comment))]
 fn in_comment(c: u8) -> Phase
     ensures { result ≡ comment c }
 {
@@ -139,6 +142,7 @@ fn next(out: &mut [u8], r: Reading, place: usize, c: u8) -> Reading
     }
 }
 
+#[tactic(auto, unfolding(crate::specs::Hex::answer))]
 fn at_end(phase: Phase, count: usize) -> Hex
     ensures { result ≡ answer phase count }
 {

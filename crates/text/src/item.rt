@@ -17,6 +17,7 @@ fn put_picked(line: &mut [u8], at: usize, n: usize, bars: usize, c: u8) -> usize
     at
 }
 
+#[tactic(auto, unfolding(crate::specs::Text::bars_behind))]
 fn bars_behind(bars: usize, c: u8) -> usize
     requires { bars < 0xFFFFFFFFFFFFFFFF }
     ensures { result ≡ bars_behind bars c }
