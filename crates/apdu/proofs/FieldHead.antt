@@ -1,13 +1,13 @@
 -- Contents that are elements: what their header says of the first field.
+use Rattle.std.specs.Prelude.{Option, Some, None}
 use Prim.Native.Nat.{ℕ, zero, suc, ◌≤◌}
 use mathlib.Core.Path.{◌≡◌, refl, ap, ◌∙◌}
 use mathlib.Core.Logic.{⊎_elim}
 use mathlib.Core.Bool.{true}
 use mathlib.Core.List.{List, [], ◌∷◌}
-use mathlib.Core.Option.{Option, some}
 use native.Mathlib.Omega.{arith}
 use lib.ListN.{length, get_or, take}
-use Rattle.ber.specs.declared.header.Header.TheVariants.{At, NoHeader}
+use Rattle.ber.specs.declared.header.Header.TheVariants.{At}
 use Rattle.ber.specs.Header.{header_of}
 use Rattle.ber.specs.Element.{contents_of, size}
 use Rattle.ber.proofs.HeaderLaws.{header_bounds}
@@ -20,17 +20,17 @@ use Rattle.apdu.specs.Field.{Part, part_behind, Field, field_in, fields}
 use Rattle.apdu.proofs.FieldLaws.{fields_cons}
 
 -- what of the first element of contents the header at their front says
-pub contents_definite : (d : ℕ) (s : List ℕ) (id a e : ℕ) → header_of s ≡ At id a e → contents_of d s ≡ true → size d s ≡ some e
+pub contents_definite : (d : ℕ) (s : List ℕ) (id a e : ℕ) → header_of s ≡ Some (At id a e) → contents_of d s ≡ true → size d s ≡ Some e
 contents_definite d s id a e w q =
     let b = header_bounds s id a e w in
     let f : First d s = contents_first d s (omega arith) q in
     ⊎_elim
-    (λ k. let z : f.n ≡ e = cc k.header in f.element ∙ ap {B = Option ℕ} (λ x. some x) z)
+    (λ k. let z : f.n ≡ e = cc k.header in f.element ∙ ap {B = Option ℕ} (λ x. Some x) z)
     (λ k. let z : ◌≡◌ {A = ℕ} 0 1 = cc k.header in absurd (omega arith))
     (element_facts d s f.n f.element)
 
 -- an element has a header
-pub contents_headed : (d : ℕ) (s : List ℕ) → header_of s ≡ NoHeader → contents_of d s ≡ true → length s ≡ 0
+pub contents_headed : (d : ℕ) (s : List ℕ) → header_of s ≡ None → contents_of d s ≡ true → length s ≡ 0
 contents_headed d [] w q = refl
 contents_headed d (b ∷ s) w q =
     let f : First d (b ∷ s) = contents_first d (b ∷ s) (omega arith) q in

@@ -1,13 +1,12 @@
 -- A field's places are right: what it holds stands there in the lent octets, within them.
+use Rattle.std.specs.Prelude.{Option, Some, None}
 use Prim.Native.Nat.{ℕ, zero, suc, ◌-◌, ◌<◌, ◌≤◌}
 use mathlib.Core.Path.{◌≡◌, refl, ap, ◌∙◌}
 use mathlib.Core.List.{List, [], ◌∷◌}
 use native.Mathlib.Omega.{arith}
-use mathlib.Core.Option.{Option, some, none}
 use lib.ListN.{length, take, drop}
 use lib.Seq.{length-take-le}
 use Rattle.ber.specs.declared.element.Frame.{Frame}
-use Rattle.ber.specs.declared.element.Frame.TheVariants.{Of, NoFrame}
 use Rattle.ber.specs.Element.{size, frame_of}
 use Rattle.base.specs.Octets.{part}
 use Rattle.ber.proofs.HeaderLaws.{Bounds}
@@ -46,18 +45,18 @@ module _ (s : List ℕ) (p : Part) (w : Stands s p) where
         within = w.within;
       }
 
-  stand_with : (rest : Part → List Field) (n : ℕ) → 0 < n → n ≤ length p.octets → AllStand s (rest (part_behind p n)) → (h : Frame) → frame_of (take n p.octets) ≡ h → AllStand s (fields_with rest p n h)
+  stand_with : (rest : Part → List Field) (n : ℕ) → 0 < n → n ≤ length p.octets → AllStand s (rest (part_behind p n)) → (h : Option Frame) → frame_of (take n p.octets) ≡ h → AllStand s (fields_with rest p n h)
   unfolding fields_with
-  stand_with rest n o k r NoFrame q = tt
-  stand_with rest n o k r (Of id a e) q =
-      let b : Bounds (take n p.octets) id a e = frame_bounds (take n p.octets) id a e q in
+  stand_with rest n o k r None q = tt
+  stand_with rest n o k r (Some f) q =
+      let b : Bounds (take n p.octets) f.id f.start f.stop = frame_bounds (take n p.octets) f.id f.start f.stop q in
       let l : length (take n p.octets) ≡ n = length-take-le n p.octets k in
-      (inside_stands a e b.order (omega arith) (omega arith), inside_stands 0 n (omega arith) o k, r)
+      (inside_stands f.start f.stop b.order (omega arith) (omega arith), inside_stands 0 n (omega arith) o k, r)
 
   stand_by : (d : ℕ) (rest : Part → List Field) → ((n : ℕ) → n ≤ length p.octets → AllStand s (rest (part_behind p n))) → (r : Option ℕ) → size d p.octets ≡ r → AllStand s (fields_by rest p r)
   unfolding fields_by
-  stand_by d rest r none q = tt
-  stand_by d rest r (some n) q =
+  stand_by d rest r None q = tt
+  stand_by d rest r (Some n) q =
       let b = element_bounds d p.octets n q in stand_with rest n (omega arith) b.1 (r n b.1) (frame_of (take n p.octets)) refl
 
 stand_in : (s : List ℕ) (d n : ℕ) (p : Part) → Stands s p → AllStand s (fields_in d n p)

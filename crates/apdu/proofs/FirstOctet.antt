@@ -1,10 +1,10 @@
 -- The first octet decides the kind, of what is read and of what is written.
+use Rattle.std.specs.Prelude.{Option, Some, None}
 use Prim.Native.Nat.{ℕ, ◌-◌, ◌≤◌, ◌<◌}
 use mathlib.Core.Path.{◌≡◌, refl, ap, subst}
 use mathlib.Core.Logic.{◌⊎◌, inl, inr}
 use mathlib.Core.Bool.{cond, ◌&&◌}
 use mathlib.Core.List.{List, [], ◌∷◌}
-use mathlib.Core.Option.{Option, some, none}
 use native.Mathlib.Omega.{arith}
 use lib.ListN.{get_or}
 use lib.Dec.{eqb, leb}
@@ -13,11 +13,8 @@ use Rattle.base.proofs.Tests.{cond_elim, and_left, and_right}
 use Rattle.codes.specs.declared.Code.{Code}
 use Rattle.records.specs.Limits.{levels}
 use Rattle.ber.specs.declared.element.Frame.{Frame}
-use Rattle.ber.specs.declared.element.Frame.TheVariants.{Of as FrameOf, NoFrame}
 use Rattle.ber.specs.Element.{well_formed, place, frame_of, element_octets}
 use Rattle.ber.proofs.FrameLaws.{frame_bounds}
-use Rattle.apdu.specs.declared.Number.{Number}
-use Rattle.apdu.specs.declared.Number.TheVariants.{Of, Absent}
 use Rattle.apdu.specs.Field.{part_of, Field, fields}
 use Rattle.apdu.specs.Parse.{Apdu, badly_structured, unrecognized, mistyped, invoke, result, error, reject, id_of, Coded, uncoded, coded, coded_of, Linked, unlinked, linked, linked_of, invoke_with, invoke_behind, result_with, result_behind, error_behind, is_problem, id_allowed, reject_with, reject_behind, reject_of, behind_id, with_id, by_kind, parse_at, parse}
 use Rattle.apdu.specs.Encode.{encode_invoke, encode_result, encode_error, encode_reject}
@@ -36,11 +33,11 @@ kind_octet (reject i k p) = 0xA4
 abbrev pub Says : ℕ → Apdu → Type 0
 Says t a = (kind_octet a ≡ 0) ⊎ (kind_octet a ≡ t)
 
-says_coded : (i : ℕ) (l : Number) (c : Coded) → Says 0xA1 (invoke_with i l c) × Says 0xA2 (result_with i c) × Says 0xA3 (error_behind i c)
+says_coded : (i : ℕ) (l : Option ℕ) (c : Coded) → Says 0xA1 (invoke_with i l c) × Says 0xA2 (result_with i c) × Says 0xA3 (error_behind i c)
 unfolding invoke_with result_with error_behind
 says_coded i l uncoded = (inl refl, inl refl, inl refl)
-says_coded i l (coded c none) = (inr refl, inl refl, inr refl)
-says_coded i l (coded c (some v)) = (inr refl, inr refl, inr refl)
+says_coded i l (coded c None) = (inr refl, inl refl, inr refl)
+says_coded i l (coded c (Some v)) = (inr refl, inr refl, inr refl)
 
 says_invoke : (i : ℕ) (l : Linked) → Says 0xA1 (invoke_behind i l)
 unfolding invoke_behind
@@ -51,15 +48,15 @@ says_result : (i : ℕ) (fs : List Field) → Says 0xA2 (result_behind i fs)
 unfolding result_behind
 says_result i [] = inr refl
 says_result i (f ∷ []) =
-    cond_elim (Says 0xA2) (eqb f.identifier 0x30) (result_with i (coded_of (fields (levels - 2) f.contents))) (mistyped (Of i))
-    (λ _. (says_coded i Absent (coded_of (fields (levels - 2) f.contents))).1) (λ _. inl refl)
+    cond_elim (Says 0xA2) (eqb f.identifier 0x30) (result_with i (coded_of (fields (levels - 2) f.contents))) (mistyped (Some i))
+    (λ _. (says_coded i None (coded_of (fields (levels - 2) f.contents))).1) (λ _. inl refl)
 says_result i (f ∷ g ∷ fs) = inl refl
 
-says_behind : (n : Number) (t : ℕ) (fs : List Field) → Says 0xA4 (reject_behind n t fs)
+says_behind : (n : Option ℕ) (t : ℕ) (fs : List Field) → Says 0xA4 (reject_behind n t fs)
 unfolding reject_behind reject_with
 says_behind n t [] = inl refl
 says_behind n t (g ∷ []) =
-    cond_elim (Says 0xA4) (is_problem g.identifier g.contents.octets && id_allowed n t g.identifier) (reject n g.identifier (get_or g.contents.octets 0 0)) (mistyped Absent)
+    cond_elim (Says 0xA4) (is_problem g.identifier g.contents.octets && id_allowed n t g.identifier) (reject n g.identifier (get_or g.contents.octets 0 0)) (mistyped None)
     (λ _. inr refl) (λ _. inl refl)
 says_behind n t (g ∷ h ∷ fs) = inl refl
 
@@ -71,15 +68,15 @@ says_reject (f ∷ fs) = says_behind (id_of f) f.identifier fs
 says_as : (t k : ℕ) (a : Apdu) → t ≡ k → Says k a → Says t a
 says_as t k a e o = subst (λ (n : ℕ). Says n a) (omega arith) o
 
-says_id : (t : ℕ) (n : Number) (fs : List Field) → 0xA1 ≤ t → t ≤ 0xA3 → Says t (behind_id t n fs)
+says_id : (t : ℕ) (n : Option ℕ) (fs : List Field) → 0xA1 ≤ t → t ≤ 0xA3 → Says t (behind_id t n fs)
 unfolding behind_id
-says_id t Absent fs l h = inl refl
-says_id t (Of i) fs l h =
+says_id t None fs l h = inl refl
+says_id t (Some i) fs l h =
     cond_elim (Says t) (eqb t 0xA1) (invoke_behind i (linked_of fs)) (cond (eqb t 0xA2) (result_behind i fs) (error_behind i (coded_of fs)))
     (λ e. says_as t 0xA1 (invoke_behind i (linked_of fs)) (eqb-true t 0xA1 e) (says_invoke i (linked_of fs)))
     (λ x. cond_elim (Says t) (eqb t 0xA2) (result_behind i fs) (error_behind i (coded_of fs))
     (λ e. says_as t 0xA2 (result_behind i fs) (eqb-true t 0xA2 e) (says_result i fs))
-    (λ y. says_as t 0xA3 (error_behind i (coded_of fs)) (omega (arith, eqb-false t 0xA1 x, eqb-false t 0xA2 y)) (says_coded i Absent (coded_of fs)).2))
+    (λ y. says_as t 0xA3 (error_behind i (coded_of fs)) (omega (arith, eqb-false t 0xA1 x, eqb-false t 0xA2 y)) (says_coded i None (coded_of fs)).2))
 
 says_with : (t : ℕ) (fs : List Field) → 0xA1 ≤ t → t ≤ 0xA3 → Says t (with_id t fs)
 unfolding with_id
@@ -93,11 +90,11 @@ says_kind t fs =
     (λ e. says_with t fs (leb-true 0xA1 t (and_left (leb 0xA1 t) (leb t 0xA3) e)) (leb-true t 0xA3 (and_right (leb 0xA1 t) (leb t 0xA3) e)))
     (λ _. cond_elim (Says t) (eqb t 0xA4) (reject_of fs) unrecognized (λ e. says_as t 0xA4 (reject_of fs) (eqb-true t 0xA4 e) (says_reject fs)) (λ _. inl refl))
 
-says_at : (x : List ℕ) (h : Frame) → frame_of x ≡ h → Says (get_or x 0 0) (parse_at x h)
+says_at : (x : List ℕ) (h : Option Frame) → frame_of x ≡ h → Says (get_or x 0 0) (parse_at x h)
 unfolding parse_at
-says_at x NoFrame q = inl refl
-says_at x (FrameOf id a e) q =
-    subst (λ (t : ℕ). Says t (by_kind id (fields (levels - 1) (part_of x a e)))) (frame_bounds x id a e q).first (says_kind id (fields (levels - 1) (part_of x a e)))
+says_at x None q = inl refl
+says_at x (Some f) q =
+    subst (λ (t : ℕ). Says t (by_kind f.id (fields (levels - 1) (part_of x f.start f.stop)))) (frame_bounds x f.id f.start f.stop q).first (says_kind f.id (fields (levels - 1) (part_of x f.start f.stop)))
 
 says_first : (x : List ℕ) → Says (get_or x 0 0) (parse x)
 unfolding parse
@@ -117,7 +114,7 @@ unfolding element_octets
 first_written t c = refl
 
 module _ (i : ℕ) (c : Code) (v : Option (List ℕ)) where
-  pub first_invoke : (l : Number) → get_or (encode_invoke i l c v) 0 0 ≡ 0xA1
+  pub first_invoke : (l : Option ℕ) → get_or (encode_invoke i l c v) 0 0 ≡ 0xA1
   unfolding encode_invoke
   first_invoke l = first_written 0xA1 _
 
@@ -129,6 +126,6 @@ module _ (i : ℕ) (c : Code) (v : Option (List ℕ)) where
   unfolding encode_error
   first_error = first_written 0xA3 _
 
-pub first_reject : (i : Number) (k p : ℕ) → get_or (encode_reject i k p) 0 0 ≡ 0xA4
+pub first_reject : (i : Option ℕ) (k p : ℕ) → get_or (encode_reject i k p) 0 0 ≡ 0xA4
 unfolding encode_reject
 first_reject i k p = first_written 0xA4 _

@@ -1,4 +1,5 @@
 -- What the code that goes by the first octet answers, and what becomes of it where octets are not well formed.
+use Rattle.std.specs.Prelude.{Option, Some, None}
 use Prim.Native.Nat.{ℕ, ◌-◌, ◌/◌, ◌%◌, ◌<◌, ◌≤◌}
 use mathlib.Core.Path.{◌≡◌, refl, sym, ap, ◌∙◌}
 use mathlib.Core.Bool.{Bool, true, false, cond, ◌&&◌}
@@ -13,7 +14,6 @@ use Rattle.base.proofs.Keys.{no_key}
 use Rattle.base.specs.Octets.{part}
 use Rattle.records.specs.Limits.{levels}
 use Rattle.ber.specs.declared.element.Frame.{Frame}
-use Rattle.ber.specs.declared.element.Frame.TheVariants.{Of as FrameOf, NoFrame}
 use Rattle.ber.specs.declared.element.Finding.{Finding}
 use Rattle.ber.specs.declared.element.Finding.TheVariants.{One, More, Fault}
 use Rattle.ber.specs.Header.{constructed}
@@ -21,8 +21,6 @@ use Rattle.ber.specs.Element.{inside_of, contents_of, makes_element, well_formed
 use Rattle.ber.proofs.RuleLaws.{constructed_rule}
 use Rattle.ber.proofs.FrameLaws.{framed, well_formed_framed}
 use Rattle.ber.proofs.FaultLaws.{well_formed_finding, finding_one}
-use Rattle.apdu.specs.declared.Number.{Number}
-use Rattle.apdu.specs.declared.Number.TheVariants.{Absent}
 use Rattle.apdu.specs.declared.Parsed.{Parsed}
 use Rattle.apdu.specs.declared.Parsed.TheVariants.{BadlyStructured, Unrecognized, Mistyped, Invoke, Result, Error, InvokeReject, ResultReject, ErrorReject, GeneralReject}
 use Rattle.apdu.specs.contracts.Parsed as parsed
@@ -48,7 +46,7 @@ module _ (s : List ℕ) (at end : ℕ) (t : ℕ) (r : Parsed) where
   kind_high h = other_kind (λ e. omega arith) (and_false_right (leb 0xA1 t) (leb t 0xA3) (lt-leb t 0xA3 (omega arith)))
 
   -- the four kinds are constructed, so that their contents are elements where they are well formed
-  four_kinds : 0xA1 ≤ t → t ≤ 0xA4 → (m : Number) (F : List Field → Apdu) → read_parsed s r ≡ guarded (levels - 1) (mistyped m) F (part_of s at end)
+  four_kinds : 0xA1 ≤ t → t ≤ 0xA4 → (m : Option ℕ) (F : List Field → Apdu) → read_parsed s r ≡ guarded (levels - 1) (mistyped m) F (part_of s at end)
       → F (fields (levels - 1) (part_of s at end)) ≡ by_kind t (fields (levels - 1) (part_of s at end)) → Answer
   unfolding constructed unsettled
   four_kinds l h m F e k =
@@ -59,14 +57,14 @@ module _ (s : List ℕ) (at end : ℕ) (t : ℕ) (r : Parsed) where
         wrong = λ w. ap unsettled (e ∙ sym (cond_false (F (fields (levels - 1) (part_of s at end))) (mistyped m) (same ∙ w)));
       }
 
-  pub kind_with : 0xA1 ≤ t → t ≤ 0xA3 → (m : Number) → read_parsed s r ≡ guarded (levels - 1) (mistyped m) (with_id t) (part_of s at end) → Answer
+  pub kind_with : 0xA1 ≤ t → t ≤ 0xA3 → (m : Option ℕ) → read_parsed s r ≡ guarded (levels - 1) (mistyped m) (with_id t) (part_of s at end) → Answer
   unfolding by_kind
   kind_with l h m e = four_kinds l (omega arith) m (with_id t) e (cond_true _ _ (and_true (le-leb 0xA1 t l) (le-leb t 0xA3 h)))
 
-  pub kind_reject : t ≡ 0xA4 → read_parsed s r ≡ guarded (levels - 1) (mistyped Absent) reject_of (part_of s at end) → Answer
+  pub kind_reject : t ≡ 0xA4 → read_parsed s r ≡ guarded (levels - 1) (mistyped None) reject_of (part_of s at end) → Answer
   unfolding by_kind
   kind_reject x e =
-      four_kinds (omega arith) (omega arith) Absent reject_of e
+      four_kinds (omega arith) (omega arith) None reject_of e
       (cond_true _ _ (eq-eqb t 0xA4 x) ∙ cond_false _ _ (and_false_right (leb 0xA1 t) (leb t 0xA3) (lt-leb t 0xA3 (omega arith))))
 
 -- ---- the whole
@@ -98,7 +96,7 @@ module _ (f : Finding) (a : Apdu) where
   settled_not u = cond_true (judge f a) a u
 
 module _ (s : List ℕ) (f : Finding) (r : Parsed) where
-  pub settled_mistyped : (n : Number) → r ≡ Mistyped n → judge f (read_parsed s r) ≡ settle f (read_parsed s r)
+  pub settled_mistyped : (n : Option ℕ) → r ≡ Mistyped n → judge f (read_parsed s r) ≡ settle f (read_parsed s r)
   unfolding read_parsed unsettled
   settled_mistyped n e = settled_not f (read_parsed s r) (ap (λ (x : Parsed). unsettled (read_parsed s x)) e)
 
@@ -126,18 +124,18 @@ settled_other s f r h = settled_so f (read_parsed s r) (go r h)
     go (ErrorReject i p) h = refl
     go (GeneralReject i p) h = refl
 
-module _ (x : List ℕ) (f : Frame) (q : f ≡ frame_of x) where
-  pub parse_frameless : f ≡ NoFrame → judge (finding_in levels x) unrecognized ≡ parse x
+module _ (x : List ℕ) (f : Option Frame) (q : f ≡ frame_of x) where
+  pub parse_frameless : f ≡ None → judge (finding_in levels x) unrecognized ≡ parse x
   unfolding parse
   parse_frameless w =
       let e : well_formed levels x ≡ false = well_formed_framed 15 x ∙ ap (framed 15 x) (sym q ∙ w) in
       judged_wrong x unrecognized e ∙ cond_false _ _ e
 
-  pub parse_framed : (id a e : ℕ) → f ≡ FrameOf id a e → (r : Parsed) → Reading x (makes_element (inside_of (levels - 1)) id (part x a e)) r (by_kind id (fields (levels - 1) (part_of x a e))) → settle (finding_in levels x) (read_parsed x r) ≡ parse x
+  pub parse_framed : (frame : Frame) → f ≡ Some frame → (r : Parsed) → Reading x (makes_element (inside_of (levels - 1)) frame.id (part x frame.start frame.stop)) r (by_kind frame.id (fields (levels - 1) (part_of x frame.start frame.stop))) → settle (finding_in levels x) (read_parsed x r) ≡ parse x
   unfolding parse parse_at settle
-  parse_framed id a e w r k = go (well_formed levels x) refl
+  parse_framed frame w r k = go (well_formed levels x) refl
     where
-      well : makes_element (inside_of (levels - 1)) id (part x a e) ≡ well_formed levels x
+      well : makes_element (inside_of (levels - 1)) frame.id (part x frame.start frame.stop) ≡ well_formed levels x
       well = sym (well_formed_framed 15 x ∙ ap (framed 15 x) (sym q ∙ w))
 
       go : (b : Bool) → well_formed levels x ≡ b → settle (finding_in levels x) (read_parsed x r) ≡ cond b (parse_at x (frame_of x)) (badly_structured (place levels x))

@@ -1,17 +1,9 @@
 -- What the code's answers say, with their places read in the lent octets s.
-use Rattle.std.specs.Prelude.{ℕ, List}
-use Rattle.std.proofs.Math.Option.{Option, some, none}
-use Rattle.apdu.specs.declared.Number.{Number}
-use Rattle.apdu.specs.declared.Number.TheVariants.{Of, Absent}
-use Rattle.apdu.specs.declared.OwnLink.{OwnLink}
-use Rattle.apdu.specs.declared.OwnLink.TheVariants.{To as ToOwn, Absent as NoOwn}
-use Rattle.apdu.specs.declared.PeerLink.{PeerLink}
-use Rattle.apdu.specs.declared.PeerLink.TheVariants.{To as ToPeer, Absent as NoPeer}
+use Rattle.std.specs.Prelude.{ℕ, List, Option, Some, None, option_map}
+use Rattle.records.specs.declared.OwnId.{OwnId}
+use Rattle.records.specs.declared.PeerId.{PeerId}
 use Rattle.apdu.specs.declared.Span.{Span}
-use Rattle.apdu.specs.declared.Value.{Value}
-use Rattle.apdu.specs.declared.Value.TheVariants.{At, Absent as NoValue}
 use Rattle.apdu.specs.declared.Body.{Body}
-use Rattle.apdu.specs.declared.Body.TheVariants.{Of as Holds, Absent as NoBody}
 use Rattle.apdu.specs.declared.Parsed.{Parsed}
 use Rattle.apdu.specs.declared.Parsed.TheVariants.{BadlyStructured, Unrecognized, Mistyped, Invoke, Result, Error, InvokeReject, ResultReject, ErrorReject, GeneralReject}
 use Rattle.apdu.specs.Field.{Part, part_of}
@@ -19,13 +11,11 @@ use Rattle.apdu.specs.Parse.{CodedValue, Apdu, badly_structured, unrecognized, m
 
 -- ---- linked ids
 
-abbrev pub read_own_link : OwnLink → Number
-read_own_link (ToOwn i) = Of i.0
-read_own_link NoOwn = Absent
+abbrev pub read_own_link : Option OwnId → Option ℕ
+read_own_link l = option_map (λ i. i.0) l
 
-abbrev pub read_peer_link : PeerLink → Number
-read_peer_link (ToPeer i) = Of i.0
-read_peer_link NoPeer = Absent
+abbrev pub read_peer_link : Option PeerId → Option ℕ
+read_peer_link l = option_map (λ i. i.0) l
 
 -- ---- values
 
@@ -34,14 +24,13 @@ abbrev pub read_span : List ℕ → Span → Part
 read_span s p = part_of s p.at p.end
 
 -- a value, or none
-unfoldable pub read_value : List ℕ → Value → Option Part
-read_value s (At p) = some (read_span s p)
-read_value s NoValue = none
+unfoldable pub read_value : List ℕ → Option Span → Option Part
+read_value s v = option_map (read_span s) v
 
 -- a result's code and value, or none
-unfoldable pub read_body : List ℕ → Body → Option CodedValue
-read_body s (Holds c p) = some (record { code = c; value = read_span s p })
-read_body s NoBody = none
+unfoldable pub read_body : List ℕ → Option Body → Option CodedValue
+read_body s (Some b) = Some (record { code = b.code; value = read_span s b.value })
+read_body s None = None
 
 -- ---- what parse answers
 
@@ -53,6 +42,6 @@ read_parsed s (Invoke i l c v) = invoke i.0 (read_own_link l) c (read_value s v)
 read_parsed s (Result i b) = result i.0 (read_body s b)
 read_parsed s (Error i c v) = error i.0 c (read_value s v)
 read_parsed s (GeneralReject i p) = reject i 0x80 p
-read_parsed s (InvokeReject i p) = reject (Of i.0) 0x81 p
-read_parsed s (ResultReject i p) = reject (Of i.0) 0x82 p
-read_parsed s (ErrorReject i p) = reject (Of i.0) 0x83 p
+read_parsed s (InvokeReject i p) = reject (Some i.0) 0x81 p
+read_parsed s (ResultReject i p) = reject (Some i.0) 0x82 p
+read_parsed s (ErrorReject i p) = reject (Some i.0) 0x83 p

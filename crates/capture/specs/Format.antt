@@ -1,4 +1,4 @@
--- What a capture is: document 02, request One.
+-- What a capture is (docs/RULES.md, 'A day's capture, replayed').
 use Rattle.std.specs.Prelude.{ℕ, zero, suc, ◌+◌, ◌*◌, Bool, not, ◌&&◌, ◌||◌, List, length, get_or, eqb, leb}
 use Rattle.base.specs.Octets.{u16, u32}
 use Rattle.base.specs.Count.{every}

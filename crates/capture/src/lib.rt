@@ -1,16 +1,20 @@
-// A day's capture: whether octets are a valid one, and its entries: document 02, request One.
+// A day's capture: whether octets are a valid one, and its entries (docs/RULES.md, 'A day's capture, replayed').
 #![tactic(auto)]
 
 ghost use Rattle.std.specs.Prelude.{◌≡◌, ◌<◌};
 ghost use Rattle.capture.specs.Format.{count, valid};
 ghost use Rattle.capture.specs.Entry.{entry_at, octets_at, following, side_of, id_of};
 
+pub mod kind;
 mod read;
 pub mod reader;
+pub mod side;
 mod validity;
 
 use base::octets::{between, four, octet};
-use read::{kind, kind_of, offset, size};
+use kind::Kind;
+use read::{kind, offset, size};
+use side::Side;
 use validity::{entries_end, is_headed};
 
 // The most octets of a capture.
@@ -19,19 +23,10 @@ pub const MOST_OCTETS: usize = 60_000;
 // The most entries of a capture.
 pub const MOST_ENTRIES: usize = 1_000;
 
-// What an entry is. Nothing: there is no such entry, or its kind is none of these.
-#[derive(Clone, Copy)]
-pub enum Kind {
-    Received,
-    Sent,
-    Forget,
-    Nothing,
-}
-
-// An entry: its kind, and its octets as those of the capture from `at` up to `end`.
-#[derive(Clone, Copy)]
+// An entry: its kind, and its octets as those of the capture from `at` up to `end`. It has no kind where there is no such entry, or where its octet is none.
+#[derive(Clone, Copy, Debug, PartialEq, Eq)]
 pub struct Entry {
-    pub kind: Kind,
+    pub kind: Option<Kind>,
     pub at: usize,
     pub end: usize,
 }
@@ -46,17 +41,11 @@ pub fn count(capture: &[u8]) -> usize
 }
 
 // Whether octets are a valid capture.
-#[tactic(auto, using(crate::proofs::Answers::too_long, crate::proofs::Answers::header_wrong, crate::proofs::Answers::entries_decide))]
+#[tactic(auto, unfolding(crate::specs::Format::valid))]
 pub fn valid(capture: &[u8]) -> bool
     ensures { result ≡ valid capture.now }
 {
-    if capture.len() > MOST_OCTETS {
-        return false;
-    }
-    if !is_headed(capture) {
-        return false;
-    }
-    entries_end(capture)
+    capture.len() <= MOST_OCTETS && is_headed(capture) && entries_end(capture)
 }
 
 // The entry with a number.
@@ -66,7 +55,7 @@ pub fn entry_at(capture: &[u8], number: usize) -> Entry
 {
     if number >= count(capture) {
         return Entry {
-            kind: Kind::Nothing,
+            kind: None,
             at: 0,
             end: 0,
         };
@@ -74,7 +63,7 @@ pub fn entry_at(capture: &[u8], number: usize) -> Entry
     let at = offset(capture, number) as usize;
     let end = at + size(capture, number) as usize;
     Entry {
-        kind: kind_of(kind(capture, number)),
+        kind: Kind::try_from(kind(capture, number)).ok(),
         at,
         end,
     }
@@ -93,17 +82,18 @@ pub fn octets_at(capture: &[u8], number: usize) -> &[u8]
 pub fn following(capture: &[u8], number: usize) -> usize
     ensures { result ≡ following capture.now number }
 {
-    if number >= count(capture) {
-        return number;
+    if number < count(capture) {
+        number + 1
+    } else {
+        number
     }
-    number + 1
 }
 
-// The side of a forget's octets, 0 where there are none.
-pub fn side_of(octets: &[u8]) -> u8
+// The side of a forget's octets; an octet that is missing counts as 0.
+pub fn side_of(octets: &[u8]) -> Side
     ensures { result ≡ side_of octets.now }
 {
-    octet(octets, 0)
+    Side::from(octet(octets, 0))
 }
 
 // The id of a forget's octets.

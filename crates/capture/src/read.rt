@@ -1,9 +1,7 @@
 // What a capture's octets say, an octet behind the end being 0.
 ghost use Rattle.std.specs.Prelude.{◌≡◌, ◌<◌};
 ghost use Rattle.capture.specs.Format.{data_offset, kind, zero_octet, size, offset};
-ghost use Rattle.capture.specs.Entry.{kind_of};
 
-use crate::Kind;
 use base::octets::{four, octet, two};
 
 #[tactic(auto, unfolding(crate::specs::Format::data_offset))]
@@ -14,7 +12,8 @@ pub(crate) fn data_offset(capture: &[u8]) -> usize
     four(capture, 4) as usize
 }
 
-// An entry of the index: no sum wraps where its number is below any count.
+// An entry of the index: no sum wraps where its number is below any count, and a type for such a number would be made at each call. A reader of one line for each
+// field, as Format defines them; `kind` answers an octet, which `kind_right` has that may be none.
 pub(crate) fn kind(capture: &[u8], entry: usize) -> u8
     requires { entry < 4294967296 }
     ensures { result ≡ kind capture.now entry }
@@ -41,16 +40,4 @@ pub(crate) fn offset(capture: &[u8], entry: usize) -> u32
     ensures { result ≡ offset capture.now entry }
 {
     four(capture, 8 + entry * 8 + 4)
-}
-
-// The kind that a number stands for.
-pub(crate) fn kind_of(octet: u8) -> Kind
-    ensures { result ≡ kind_of octet }
-{
-    match octet {
-        0 => Kind::Received,
-        1 => Kind::Sent,
-        2 => Kind::Forget,
-        _ => Kind::Nothing,
-    }
 }

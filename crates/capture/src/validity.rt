@@ -10,34 +10,17 @@ use crate::{MOST_ENTRIES, count};
 pub(crate) fn is_headed(capture: &[u8]) -> bool
     ensures { result ≡ headed capture.now }
 {
-    if capture.len() < 8 {
-        return false;
-    }
     let n = count(capture);
-    if n > MOST_ENTRIES {
-        return false;
-    }
     let data = data_offset(capture);
-    if data != 8 + n * 8 {
-        return false;
-    }
-    data <= capture.len()
+    capture.len() >= 8 && n <= MOST_ENTRIES && data == 8 + n * 8 && data <= capture.len()
 }
 
+// One octet at least and 4,096 at most; a forget's are 5. The kind is the index's octet here, as the definition has it: an entry's kind is right by this test only.
 #[tactic(auto, unfolding(crate::specs::Format::size_fits))]
 fn is_size_right(kind: u8, size: u16) -> bool
     ensures { result ≡ size_fits kind size }
 {
-    if size < 1 {
-        return false;
-    }
-    if size > 4096 {
-        return false;
-    }
-    if kind == 2 {
-        return size == 5;
-    }
-    true
+    size >= 1 && size <= 4096 && (kind != 2 || size == 5)
 }
 
 #[tactic(auto, unfolding(crate::specs::Format::entry_right, crate::specs::Format::kind_right, crate::specs::Format::zero_right, crate::specs::Format::size_right))]
@@ -46,13 +29,7 @@ fn is_entry_right(capture: &[u8], entry: usize) -> bool
     ensures { result ≡ entry_right capture.now entry }
 {
     let kind = kind(capture, entry);
-    if kind > 2 {
-        return false;
-    }
-    if zero_octet(capture, entry) != 0 {
-        return false;
-    }
-    is_size_right(kind, size(capture, entry))
+    kind <= 2 && zero_octet(capture, entry) == 0 && is_size_right(kind, size(capture, entry))
 }
 
 // Each entry is right, and their data stands end to end to the end.
@@ -60,19 +37,15 @@ fn is_entry_right(capture: &[u8], entry: usize) -> bool
 pub(crate) fn entries_end(capture: &[u8]) -> bool
     ensures { result ≡ (every (entry_right capture.now) (count capture.now) && end_to_end capture.now) }
 {
-    let n = count(capture);
     let mut at = data_offset(capture);
-    let mut i: usize = 0;
-    while i < n {
+    for i in 0..count(capture) {
         if !is_entry_right(capture, i) {
             return false;
         }
-        let start = offset(capture, i) as usize;
-        if start != at {
+        if offset(capture, i) as usize != at {
             return false;
         }
         at += size(capture, i) as usize;
-        i += 1;
     }
     at == capture.len()
 }

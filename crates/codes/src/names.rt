@@ -1,96 +1,73 @@
 // Names: their octets, their form and their equality.
-ghost use Rattle.std.specs.Prelude.{◌≡◌};
-ghost use Rattle.codes.specs.Code.{name_octets, name_of, same_name, name_form, name_right};
+ghost use Rattle.std.specs.Prelude.{◌≡◌, ◌≤◌, length};
+ghost use Rattle.codes.specs.Code.{name_octets, name_contents, name_of, same_name, name_form, name_right};
 
-use crate::{Form, Name};
-use base::octets::eight;
+use crate::{Name, NameFault};
+use base::octets::octets;
 use ber::rule::content_rule;
 
 impl Name {
     // The name with these contents; over 16 octets are no name's.
-    #[tactic(auto, unfolding(crate::specs::Code::name_of))]
+    #[tactic(auto, using(std::proofs::lemmas::List::take_all), unfolding(crate::specs::Code::name_of, base::specs::Octets::zero_filled))]
     pub fn of(contents: &[u8]) -> Self
         ensures { result ≡ name_of contents.now }
     {
         if contents.len() > 16 {
             return Name {
                 length: 0,
-                high: 0,
-                low: 0,
+                octets: [0; 16],
             };
         }
         Name {
             length: contents.len() as u8,
-            high: eight(contents, 0),
-            low: eight(contents, 8),
+            octets: octets(contents, 0),
         }
     }
 
-    // The 16 octets of the two words.
-    #[tactic(auto, unfolding(crate::specs::Code::name_octets, ber::specs::Header::digits))]
+    // The contents, at most all 16 octets.
+    #[tactic(auto, unfolding(crate::specs::Code::name_contents))]
+    pub fn contents(&self) -> &[u8]
+        ensures value { result.now ≡ name_contents self.now }
+        ensures most { length result.now ≤ 16 }
+    {
+        &self.octets[..(self.length as usize).min(16)]
+    }
+
+    // All 16 octets, those behind the contents too.
     pub fn octets(self) -> [u8; 16]
         ensures { result ≡ name_octets self }
     {
-        let h = self.high;
-        let l = self.low;
-        [
-            (h / 0x100_0000_0000_0000 % 256) as u8,
-            (h / 0x1_0000_0000_0000 % 256) as u8,
-            (h / 0x100_0000_0000 % 256) as u8,
-            (h / 0x1_0000_0000 % 256) as u8,
-            (h / 0x100_0000 % 256) as u8,
-            (h / 0x1_0000 % 256) as u8,
-            (h / 0x100 % 256) as u8,
-            (h / 0x1 % 256) as u8,
-            (l / 0x100_0000_0000_0000 % 256) as u8,
-            (l / 0x1_0000_0000_0000 % 256) as u8,
-            (l / 0x100_0000_0000 % 256) as u8,
-            (l / 0x1_0000_0000 % 256) as u8,
-            (l / 0x100_0000 % 256) as u8,
-            (l / 0x1_0000 % 256) as u8,
-            (l / 0x100 % 256) as u8,
-            (l / 0x1 % 256) as u8,
-        ]
+        self.octets
     }
 
     #[tactic(auto, unfolding(crate::specs::Code::same_name))]
     pub fn same(self, other: Name) -> bool
         ensures { result ≡ same_name self other }
     {
-        if self.length != other.length {
-            return false;
-        }
-        if self.high != other.high {
-            return false;
-        }
-        self.low == other.low
+        self == other
     }
 
-    #[tactic(auto, unfolding(crate::specs::Code::name_form, crate::specs::Code::name_contents))]
-    pub fn form(self) -> Form
+    // What is wrong with it first, if anything.
+    #[tactic(auto, unfolding(crate::specs::Code::name_form, crate::specs::Code::same_name))]
+    pub fn form(self) -> Result<(), NameFault>
         ensures { result ≡ name_form self }
     {
-        if self.length < 1 {
-            return Form::Length;
+        if self.length < 1 || self.length > 16 {
+            return Err(NameFault::Length);
         }
-        if self.length > 16 {
-            return Form::Length;
+        if !content_rule(0x06, self.contents()) {
+            return Err(NameFault::Contents);
         }
-        let octets = self.octets();
-        let contents = &octets[..self.length as usize];
-        if !content_rule(0x06, contents) {
-            return Form::Contents;
+        if self != Name::of(self.contents()) {
+            return Err(NameFault::Padding);
         }
-        if !self.same(Name::of(contents)) {
-            return Form::Padding;
-        }
-        Form::Right
+        Ok(())
     }
 
     #[tactic(auto, unfolding(crate::specs::Code::name_right))]
     pub fn is_right(self) -> bool
         ensures { result ≡ name_right self }
     {
-        self.form().is_right()
+        self.form().is_ok()
     }
 }

@@ -1,58 +1,83 @@
 // What an end reads: the library's indication or refusal, in words.
-use crate::words::{code_words, number, say};
-use apdu::parse::octets_of;
-use apdu::{Body, Number, Span, Value};
+use crate::words::Coded;
+use apdu::Span;
+use apdu::parse::body_value;
+use apdu::problem::ProblemKind;
+use base::octets::between;
 use codes::Code;
-use protocol::{Indication, Reception, Refusal};
+use protocol::{Indication, Problem, Refusal};
+use std::fmt;
+use std::fmt::Write as _;
 use std::io::Write;
-use text::out::{Out, decimal, octets, problem_name};
+use text::hex::SpacedOctets;
+use text::out::{Out, problem_name};
 
-fn invocation_words(
-    to: &mut Out<impl Write>,
+// An invocation of an operation, and what stands in the octets for it: a value that has a name, or none.
+#[derive(Clone, Copy)]
+struct Invocation<'a> {
     id: u32,
     operation: Code,
-    name: &[u8],
-    x: &[u8],
-    value: Value,
-) {
-    number(to, b"invocation ", id);
-    code_words(to, b" of operation ", operation);
-    match value {
-        Value::Absent => {
-            say(to, b", no");
-            say(to, name);
-        }
-        Value::At(span) => {
-            say(to, b",");
-            say(to, name);
-            octets(to, octets_of(x, span));
+    name: &'static str,
+    octets: &'a [u8],
+    value: Option<Span>,
+}
+
+impl<'a> Invocation<'a> {
+    fn of(
+        octets: &'a [u8],
+        id: u32,
+        operation: Code,
+        name: &'static str,
+        value: Option<Span>,
+    ) -> Self {
+        Invocation {
+            id,
+            operation,
+            name,
+            octets,
+            value,
         }
     }
 }
 
-fn body_value(body: Body) -> Value {
-    match body {
-        Body::Absent => Value::Absent,
-        Body::Of { value, .. } => Value::At(value),
+impl fmt::Display for Invocation<'_> {
+    fn fmt<W: fmt::Write>(&self, f: &mut fmt::Formatter<W>) -> fmt::Result {
+        let Invocation {
+            id,
+            operation,
+            name,
+            octets,
+            value,
+        } = *self;
+        write!(f, "invocation {id} of operation {}, ", Coded(operation))?;
+        match value {
+            None => write!(f, "no {name}"),
+            Some(span) => write!(f, "{name}{}", SpacedOctets(span.of(octets))),
+        }
     }
 }
 
-// The fields of a Reject.
-fn reject_words(to: &mut Out<impl Write>, words: &[u8], id: Number, kind: u8, problem: u8) {
-    say(to, words);
+// The fields of a Reject. The number of a problem stays one here and below, as the library hands it on.
+fn reject_words(
+    to: &mut Out<impl Write>,
+    id: Option<u32>,
+    kind: ProblemKind,
+    number: u8,
+) -> fmt::Result {
     match id {
-        Number::Absent => say(to, b"no invocation"),
-        Number::Of(n) => number(to, b"invocation ", n),
+        None => write!(to, ": no invocation, ")?,
+        Some(id) => write!(to, ": invocation {id}, ")?,
     }
-    say(to, b", ");
-    problem_name(to, kind, problem);
+    problem_name(to, kind.into(), number);
+    Ok(())
 }
 
-fn reject_of(to: &mut Out<impl Write>, id: u32, kind: u8, problem: u8) {
-    reject_words(to, b"reject: ", Number::Of(id), kind, problem);
+fn rejected_words(to: &mut Out<impl Write>, id: u32, kind: ProblemKind, number: u8) -> fmt::Result {
+    write!(to, "reject")?;
+    reject_words(to, Some(id), kind, number)
 }
 
-fn indication_words(to: &mut Out<impl Write>, x: &[u8], said: Indication) {
+fn indication_words(to: &mut Out<impl Write>, octets: &[u8], said: Indication) -> fmt::Result {
     match said {
         Indication::Invoke {
             id,
@@ -60,16 +85,16 @@ fn indication_words(to: &mut Out<impl Write>, x: &[u8], said: Indication) {
             argument,
             ..
         } => {
-            say(to, b"invoke: ");
-            invocation_words(to, id.0, code, b" argument", x, argument);
+            let told = Invocation::of(octets, id.0, code, "argument", argument);
+            write!(to, "invoke: {told}")
         }
         Indication::Result {
             id,
             body,
             operation,
         } => {
-            say(to, b"result: ");
-            invocation_words(to, id.0, operation, b" value", x, body_value(body));
+            let told = Invocation::of(octets, id.0, operation, "value", body_value(body));
+            write!(to, "result: {told}")
         }
         Indication::Error {
             id,
@@ -77,62 +102,59 @@ fn indication_words(to: &mut Out<impl Write>, x: &[u8], said: Indication) {
             parameter,
             operation,
         } => {
-            code_words(to, b"error ", code);
-            say(to, b": ");
-            invocation_words(to, id.0, operation, b" parameter", x, parameter);
+            let told = Invocation::of(octets, id.0, operation, "parameter", parameter);
+            write!(to, "error {}: {told}", Coded(code))
         }
-        Indication::InvokeRejected { id, problem } => reject_of(to, id.0, 0x81, problem),
-        Indication::ResultRejected { id, problem } => reject_of(to, id.0, 0x82, problem),
-        Indication::ErrorRejected { id, problem } => reject_of(to, id.0, 0x83, problem),
-        _ => say(to, b"another reject"),
+        Indication::InvokeRejected { id, problem } => {
+            rejected_words(to, id.0, ProblemKind::Invoke, problem)
+        }
+        Indication::ResultRejected { id, problem } => {
+            rejected_words(to, id.0, ProblemKind::Result, problem)
+        }
+        Indication::ErrorRejected { id, problem } => {
+            rejected_words(to, id.0, ProblemKind::Error, problem)
+        }
+        Indication::GeneralReject { .. } => write!(to, "another reject"),
     }
 }
 
-// A refusal's number, the fields of the Reject behind an 18, and why an id that was forgotten is not asked with.
-pub(crate) fn refusal_words(to: &mut Out<impl Write>, why: Refusal) {
-    number(to, b"refused with ", why.number() as u32);
+// A refusal's number, the fields of the Reject behind an 18, and why an id that was forgotten is not asked with. No Display, since text's
+// `problem_name` puts a problem out.
+pub(crate) fn refusal_words(to: &mut Out<impl Write>, why: Refusal) -> fmt::Result {
+    write!(to, "refused with {}", why.number())?;
     match why {
-        Refusal::Rejected { id, .. } => {
-            let problem = why.problem();
-            reject_words(to, b": ", id, problem.kind, problem.number);
-        }
-        Refusal::IdResting => say(to, b": the id rests"),
-        _ => {}
+        Refusal::Rejected { id, kind, problem } => reject_words(to, id, kind, problem),
+        Refusal::IdResting => write!(to, ": the id rests"),
+        _ => Ok(()),
     }
 }
 
-// Where octets that are badly structured are at fault, and what stands there.
-fn place_words(to: &mut Out<impl Write>, x: &[u8], why: Refusal, place: usize) {
-    let problem = why.problem();
-    if problem.kind == 0x80 && problem.number == 2 {
-        say(to, b"\n   the fault is at   octet ");
-        decimal(to, place as u64);
-        say(to, b":");
-        octets(
-            to,
-            octets_of(
-                x,
-                Span {
-                    at: place,
-                    end: x.len(),
-                },
-            ),
-        );
-    }
-}
-
+// What the library says of received octets; where they are badly structured, where the fault is and what stands there.
 pub(crate) fn reception_words(
     to: &mut Out<impl Write>,
-    x: &[u8],
-    reception: Reception,
+    octets: &[u8],
+    reception: Result<Option<Indication>, Refusal>,
     place: usize,
-) {
+) -> fmt::Result {
     match reception {
-        Reception::Indicated(said) => indication_words(to, x, said),
-        Reception::Answered => say(to, b"an invocation that the library answers itself"),
-        Reception::Refused(why) => {
-            refusal_words(to, why);
-            place_words(to, x, why, place);
+        Ok(Some(said)) => indication_words(to, octets, said),
+        Ok(None) => write!(to, "an invocation that the library answers itself"),
+        Err(why) => {
+            refusal_words(to, why)?;
+            let structure = Problem {
+                kind: ProblemKind::General,
+                number: 2,
+            };
+            if why.problem() != Some(structure) {
+                return Ok(());
+            }
+            let left = between(octets, place, octets.len());
+            write!(
+                to,
+                "\n   {:<18}octet {place}:{}",
+                "the fault is at",
+                SpacedOctets(left)
+            )
         }
     }
 }

@@ -1,45 +1,27 @@
-// A number or a code behind words, and readings.
-use base::octets::between;
-use codes::{Code, Name};
-use std::io::Write;
-use text::out::{Out, decimal, signed_number, words};
+// Codes and readings in words.
+use codes::Code;
+use std::fmt;
+use text::hex::Octets;
 
-pub(crate) fn say(to: &mut Out<impl Write>, s: &[u8]) {
-    words(to, s);
-}
+// A code: a signed number, or a name in hexadecimal. Not Code's own Display, since each program has its own words for a code.
+#[derive(Clone, Copy)]
+pub(crate) struct Coded(pub(crate) Code);
 
-// A number, behind some words.
-pub(crate) fn number(to: &mut Out<impl Write>, s: &[u8], n: u32) {
-    words(to, s);
-    decimal(to, n as u64);
-}
-
-// A name in hexadecimal.
-fn name_words(to: &mut Out<impl Write>, name: Name) {
-    let mut digits = [0u8; 32];
-    let all = name.octets();
-    let end = text::octets(&mut digits, 0, between(&all, 0, name.length as usize));
-    words(to, b"name ");
-    text::print(to, &digits, end);
-}
-
-// A code, behind some words.
-pub(crate) fn code_words(to: &mut Out<impl Write>, s: &[u8], code: Code) {
-    match code {
-        Code::Local(n) => {
-            words(to, s);
-            signed_number(to, n);
-        }
-        Code::Global(name) => {
-            words(to, s);
-            name_words(to, name);
+impl fmt::Display for Coded {
+    fn fmt<W: fmt::Write>(&self, f: &mut fmt::Formatter<W>) -> fmt::Result {
+        match self.0 {
+            Code::Local(bits) => write!(f, "{}", bits.cast_signed()),
+            Code::Global(name) => write!(f, "name {}", Octets(name.contents())),
         }
     }
 }
 
-// Hundredths of a mg/l, as mg/l.
-pub(crate) fn reading(to: &mut Out<impl Write>, n: u32) {
-    number(to, b" ", n / 100);
-    number(to, b".", n / 10 % 10);
-    number(to, b"", n % 10);
+// Hundredths of a mg/l, as mg/l, behind a space.
+#[derive(Clone, Copy)]
+pub(crate) struct Reading(pub(crate) u32);
+
+impl fmt::Display for Reading {
+    fn fmt<W: fmt::Write>(&self, f: &mut fmt::Formatter<W>) -> fmt::Result {
+        write!(f, " {}.{:02}", self.0 / 100, self.0 % 100)
+    }
 }

@@ -1,52 +1,39 @@
 // The ids that rest: their part of a line, and those that a state image holds.
-use crate::number::{pair_at, word};
-use crate::side::four_digits;
+use base::octets::{four, two};
 use records::{Resting, State};
-use text::{eight_digits, put};
+use std::fmt;
 
-// How many places to show: those below the count, and those up to the last that is not 0.
-fn shown(count: usize, ids: &[u32; State::RESTING]) -> usize {
-    let mut n = State::RESTING;
-    while 0 < n {
-        if n <= count || ids[n - 1] != 0 {
-            return n;
+// The count and the ids: those below the count, and those up to the last that is not 0.
+#[derive(Clone, Copy)]
+pub(crate) struct RestingLine<'a>(pub(crate) &'a Resting);
+
+impl RestingLine<'_> {
+    fn shown(&self) -> &[u32] {
+        let ids = &self.0.ids;
+        let used = ids.iter().rposition(|&id| id != 0).map_or(0, |i| i + 1);
+        &ids[..used.max(self.0.count.min(State::RESTING))]
+    }
+}
+
+impl fmt::Display for RestingLine<'_> {
+    fn fmt<W: fmt::Write>(&self, f: &mut fmt::Formatter<W>) -> fmt::Result {
+        write!(f, "{:04x}", self.0.count)?;
+        for id in self.shown() {
+            write!(f, " {id:08x}")?;
         }
-        n -= 1;
+        Ok(())
     }
-    0
-}
-
-fn place(line: &mut [u8], at: usize, id: u32, is_shown: bool) -> usize {
-    if !is_shown {
-        return at;
-    }
-    let a = put(line, at, 32);
-    eight_digits(line, a, id)
-}
-
-// The count and the ids.
-pub(crate) fn resting_line(
-    line: &mut [u8],
-    at: usize,
-    count: usize,
-    ids: &[u32; State::RESTING],
-) -> usize {
-    let n = shown(count, ids);
-    let mut k = four_digits(line, at, count);
-    for i in 0..State::RESTING {
-        k = place(line, k, ids[i], i < n);
-    }
-    k
 }
 
 // A count, then 64 ids; no octets are no ids.
-pub(crate) fn resting_image(s: &[u8]) -> Resting {
-    let mut ids = [0u32; State::RESTING];
-    for i in 0..State::RESTING {
-        ids[i] = word(s, 2 + i * 4);
+pub(crate) fn resting_image(image: &[u8]) -> Resting {
+    let mut ids = [0; State::RESTING];
+    let octets = image.get(2..).unwrap_or(&[]).chunks_exact(4);
+    for (id, octets) in ids.iter_mut().zip(octets) {
+        *id = four(octets, 0);
     }
     Resting {
-        count: pair_at(s, 0),
+        count: usize::from(two(image, 0)),
         ids,
     }
 }

@@ -1,118 +1,73 @@
 // A side of the state: its part of a line, and the side that a state image holds.
-use crate::answer::name_digits;
-use crate::number::{pair_at, word};
-use base::octets::{eight, octet as octet_at};
-use codes::Name;
-use records::{Records, State};
-use text::{eight_digits, octet, put};
+ghost use Rattle.std.specs.Prelude.{◌<◌};
 
-fn is_zero(id: u32, name: Name) -> bool {
-    id == 0 && name.length == 0 && name.high == 0 && name.low == 0
+use crate::shown::Coded;
+use base::octets::{four, octet, two};
+use codes::{Code, Name};
+use records::{Record, Records, State};
+use std::fmt;
+
+// The count and the places: those below the count, and those up to the last that is not all 0.
+#[derive(Clone, Copy)]
+pub(crate) struct SideLine<'a>(pub(crate) &'a Records);
+
+impl SideLine<'_> {
+    // The same rule stands for ids that rest and for kept answers: one function over closures would be no shorter.
+    fn shown(&self) -> &[Record] {
+        let places = &self.0.places;
+        let last = places
+            .iter()
+            .rposition(|place| place.id != 0 || place.code != Code::Local(0));
+        let used = last.map_or(0, |i| i + 1);
+        &places[..used.max(self.0.count.min(State::RECORDS))]
+    }
 }
 
-// How many places to show: those below the count, and those up to the last that is not all 0.
-fn shown<'a>(
-    count: usize,
-    ids: &'a [u32; State::RECORDS],
-    lengths: &'a [u8; State::RECORDS],
-    highs: &'a [u64; State::RECORDS],
-    lows: &'a [u64; State::RECORDS],
-) -> usize {
-    let mut n = State::RECORDS;
-    while 0 < n {
-        let name = Name {
-            length: lengths[n - 1],
-            high: highs[n - 1],
-            low: lows[n - 1],
-        };
-        if n <= count || !is_zero(ids[n - 1], name) {
-            return n;
+impl fmt::Display for SideLine<'_> {
+    fn fmt<W: fmt::Write>(&self, f: &mut fmt::Formatter<W>) -> fmt::Result {
+        write!(f, "{:04x}", self.0.count)?;
+        for place in self.shown() {
+            write!(f, " {:08x}:{}", place.id, Coded(place.code))?;
         }
-        n -= 1;
+        Ok(())
     }
-    0
 }
 
-// What stands in a place: with length 0 a local code.
-fn stored_digits(line: &mut [u8], at: usize, name: Name) -> usize {
-    if name.length == 0 {
-        return eight_digits(line, at, (name.high / 4294967296) as u32);
-    }
-    name_digits(line, at, name)
-}
-
-fn place(line: &mut [u8], at: usize, id: u32, name: Name, is_shown: bool) -> usize {
-    if !is_shown {
-        return at;
-    }
-    let a = put(line, at, 32);
-    let b = eight_digits(line, a, id);
-    let c = put(line, b, 58);
-    stored_digits(line, c, name)
-}
-
-pub(crate) fn four_digits(line: &mut [u8], at: usize, x: usize) -> usize {
-    let a = octet(line, at, (x / 256 % 256) as u8);
-    octet(line, a, (x % 256) as u8)
-}
-
-// The count and the places of a side, its fields being lent.
-pub(crate) fn side_line<'a>(
-    line: &mut [u8],
-    at: usize,
-    count: usize,
-    ids: &'a [u32; State::RECORDS],
-    lengths: &'a [u8; State::RECORDS],
-    highs: &'a [u64; State::RECORDS],
-    lows: &'a [u64; State::RECORDS],
-) -> usize {
-    let n = shown(count, ids, lengths, highs, lows);
-    let mut k = four_digits(line, at, count);
-    for i in 0..State::RECORDS {
-        let name = Name {
-            length: lengths[i],
-            high: highs[i],
-            low: lows[i],
+// A side of a state image: a count, then 32 places, each of an id and a code in so many octets.
+fn side_of<F: Fn(&[u8]) -> Code>(image: &[u8], size: usize, code_of: F) -> Records
+    requires size { 0 < size }
+    requires codes { F.IsAlwaysCallable code_of }
+{
+    let mut side = Records::fresh();
+    side.count = usize::from(two(image, 0));
+    let places = image.get(2..).unwrap_or(&[]).chunks_exact(size);
+    for (place, octets) in side.places.iter_mut().zip(places) {
+        *place = Record {
+            id: four(octets, 0),
+            code: code_of(octets.get(4..).unwrap_or(&[])),
         };
-        k = place(line, k, ids[i], name, i < n);
     }
-    k
+    side
 }
 
-// A side of a state image without names: a count, then 32 places of id and code.
-pub(crate) fn local_image(s: &[u8]) -> Records {
-    let mut ids = [0u32; State::RECORDS];
-    let mut highs = [0u64; State::RECORDS];
-    for i in 0..State::RECORDS {
-        ids[i] = word(s, 2 + i * 8);
-        highs[i] = (word(s, 6 + i * 8) as u64) * 4294967296;
-    }
-    Records {
-        count: pair_at(s, 0),
-        ids,
-        lengths: [0; State::RECORDS],
-        highs,
-        lows: [0; State::RECORDS],
-    }
+// A side of an image without names: a code is a number.
+pub(crate) fn local_image(image: &[u8]) -> Records {
+    side_of(image, 8, |octets| Code::Local(four(octets, 0)))
 }
 
-// A side of a state image: a count, then 32 places of id, length and 16 octets.
-pub(crate) fn side_image(s: &[u8]) -> Records {
-    let mut ids = [0u32; State::RECORDS];
-    let mut lengths = [0u8; State::RECORDS];
-    let mut highs = [0u64; State::RECORDS];
-    let mut lows = [0u64; State::RECORDS];
-    for i in 0..State::RECORDS {
-        ids[i] = word(s, 2 + i * 21);
-        lengths[i] = octet_at(s, 6 + i * 21);
-        highs[i] = eight(s, 7 + i * 21);
-        lows[i] = eight(s, 15 + i * 21);
+// A side of an image with names.
+pub(crate) fn side_image(image: &[u8]) -> Records {
+    side_of(image, 21, code_image)
+}
+
+// The code that a length and 16 octets say: with length 0 a local one, if all behind its four octets are 0.
+fn code_image(octets: &[u8]) -> Code {
+    let name = Name {
+        length: octet(octets, 0),
+        octets: octets.last_chunk().copied().unwrap_or([0; 16]),
+    };
+    if name.length == 0 && name.octets[4..].iter().all(|&octet| octet == 0) {
+        return Code::Local(four(&name.octets, 0));
     }
-    Records {
-        count: pair_at(s, 0),
-        ids,
-        lengths,
-        highs,
-        lows,
-    }
+    Code::Global(name)
 }

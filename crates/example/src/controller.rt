@@ -1,58 +1,34 @@
 // The controller's end: it receives an Invoke, and answers it once.
 // README shows its functions word for word: tests/readme compares them.
-use crate::TABLE;
 use crate::kiosk::number_of;
-use apdu::Value;
-use ber::integer::Integer;
+use crate::{End, TABLE};
+use base::octets::between;
 use codes::Code;
-use protocol::{Indication, Received, Reception, Requested};
-use records::{PeerId, State};
+use protocol::{Indication, Requested};
+use records::PeerId;
 
 // Probe 1 reads 12, probe 2 is below detection, probe 3 is being cleaned; another argument is rejected as mistyped.
-fn answer(
-    state: State,
-    store: &mut [u8; State::STORE_OCTETS],
-    id: PeerId,
-    octets: &[u8],
-    argument: Value,
-    out: &mut [u8],
-) -> Requested {
-    let Value::At(value) = argument else {
-        return rose::reject(state, store, &TABLE, id, 2, out);
-    };
-    let Integer::Of(probe) = number_of(octets, value) else {
-        return rose::reject(state, store, &TABLE, id, 2, out);
-    };
+fn answer(end: &mut End, id: PeerId, probe: Option<u32>, out: &mut [u8]) -> Requested {
+    let state = end.state;
+    let store = &mut end.store;
     match probe {
-        1 => rose::result(state, store, &TABLE, id, b"\x02\x01\x0c", out),
-        2 => rose::error(state, store, &TABLE, id, Code::Local(1), b"", out),
-        3 => rose::result(state, store, &TABLE, id, b"", out),
+        Some(1) => rose::result(state, store, &TABLE, id, b"\x02\x01\x0c", out),
+        Some(2) => rose::error(state, store, &TABLE, id, Code::Local(1), b"", out),
+        Some(3) => rose::result(state, store, &TABLE, id, b"", out),
         _ => rose::reject(state, store, &TABLE, id, 2, out),
     }
 }
 
-// Takes received octets: keep the state, and send the first `written` octets of `out`.
-pub(crate) fn receive(
-    state: State,
-    store: &mut [u8; State::STORE_OCTETS],
-    octets: &[u8],
-    out: &mut [u8],
-) -> Received {
-    let r = rose::receive(state, store, &TABLE, octets, out);
-    let reception = r.reception;
+// Takes received octets, and hands back those to send.
+pub(crate) fn receive<'a>(end: &mut End, octets: &[u8], out: &'a mut [u8]) -> &'a [u8] {
+    let r = rose::receive(end.state, &mut end.store, &TABLE, octets, out);
+    end.state = r.state;
     // Of an 18 the Reject to send is written; a Reject that came is not answered.
-    let Reception::Indicated(said) = reception else {
-        return r;
+    let Ok(Some(Indication::Invoke { id, argument, .. })) = r.reception else {
+        return between(out, 0, r.written);
     };
-    let Indication::Invoke { id, argument, .. } = said else {
-        return r;
-    };
-    let a = answer(r.state, store, id, octets, argument, out);
-    let state = a.state;
-    Received {
-        state,
-        place: 0,
-        reception,
-        written: a.written,
-    }
+    let probe = argument.and_then(|value| number_of(octets, value));
+    let r = answer(end, id, probe, out);
+    end.state = r.state;
+    between(out, 0, r.written)
 }

@@ -1,107 +1,73 @@
 // The kiosk's end: it asks for readings, and takes what comes back.
 // README shows its imports, `ask`, `receive` and `number_of` word for word: tests/readme compares them.
-use crate::TABLE;
-use apdu::parse::octets_of;
-use apdu::{Body, PeerLink, Span};
+use crate::{End, TABLE};
+use apdu::Span;
+use apdu::parse::body_value;
+use base::octets::between;
 use ber::header::{Header, header_of};
-use ber::integer::{Integer, integer_of};
+use ber::integer::integer_of;
 use codes::Code;
-use protocol::{Indication, Received, Reception, Requested};
-use records::{OwnId, PeerId, State};
+use protocol::Indication;
+use records::OwnId;
+use std::fmt::Write as _;
 use std::io::Write;
 use text::out::Out;
 
-// Asks for a reading of a probe: keep the state, and send the first `written` octets of `out`; a refused request wrote none.
-pub(crate) fn ask(
-    state: State,
-    store: &[u8],
-    id: OwnId,
-    probe: &[u8],
-    out: &mut [u8],
-) -> Requested {
-    rose::invoke(
-        state,
-        store,
-        &TABLE,
-        id,
-        Code::Local(7),
-        PeerLink::Absent,
-        probe,
-        out,
-    )
+// Asks for a reading of a probe, and hands back the octets to send, none of a refused request. The end keeps the state then.
+pub(crate) fn ask<'a>(end: &mut End, id: OwnId, probe: &[u8], out: &'a mut [u8]) -> &'a [u8] {
+    let code = Code::Local(7);
+    let r = rose::invoke(end.state, &end.store, &TABLE, id, code, None, probe, out);
+    end.state = r.state;
+    between(out, 0, r.written)
 }
 
 // The number that a value says: the value is a span of the received octets, here 02 01 0c, and its contents are 0c.
-pub(crate) fn number_of(octets: &[u8], value: Span) -> Integer {
-    let element = octets_of(octets, value);
-    let Header::At { start, end, .. } = header_of(element) else {
-        return Integer::NoInteger;
-    };
-    let contents = octets_of(element, Span { at: start, end });
-    integer_of(contents)
-}
-
-// Rejects an invocation that was received, and hands back the state and the octets then.
-fn rejected(
-    r: Received,
-    store: &[u8; State::STORE_OCTETS],
-    id: PeerId,
-    out: &mut [u8],
-) -> Received {
-    let reception = r.reception;
-    let a = rose::reject(r.state, store, &TABLE, id, 3, out);
-    let state = a.state;
-    Received {
-        state,
-        place: 0,
-        reception,
-        written: a.written,
+pub(crate) fn number_of(octets: &[u8], value: Span) -> Option<u32> {
+    let element = value.of(octets);
+    match header_of(element)? {
+        Header::At { start, end, .. } => integer_of(Span { at: start, end }.of(element)),
+        Header::Open { .. } => None,
     }
 }
 
-// Takes received octets: keep the state, and send the first `written` octets of `out`.
-pub(crate) fn receive(
-    state: State,
-    store: &mut [u8; State::STORE_OCTETS],
+// Takes received octets, and hands back those to send.
+pub(crate) fn receive<'a>(
+    end: &mut End,
     octets: &[u8],
-    out: &mut [u8],
+    out: &'a mut [u8],
     to: &mut Out<impl Write>,
-) -> Received {
-    let r = rose::receive(state, store, &TABLE, octets, out);
-    let reception = r.reception;
-    match reception {
+) -> &'a [u8] {
+    let r = rose::receive(end.state, &mut end.store, &TABLE, octets, out);
+    end.state = r.state;
+    match r.reception {
         // Of an 18 the Reject to send is written; of another refusal nothing is.
-        Reception::Refused(why) => show(to, b"a refusal, ", why.number() as u32),
+        Err(why) => show(to, "a refusal,", why.number() as u32),
         // A probe or an acknowledge, if the table has them: what to send is written.
-        Reception::Answered => {}
-        Reception::Indicated(said) => match said {
-            // `id` is the invocation that is answered, and is over now.
-            Indication::Result { id, body, .. } => match body {
-                Body::Absent => show(to, b"a result without a value, invocation ", id.0),
-                Body::Of { value, .. } => match number_of(octets, value) {
-                    Integer::Of(n) => show(to, b"a reading of ", n),
-                    Integer::NoInteger => show(to, b"no number of 32 bits, invocation ", id.0),
-                },
+        Ok(None) => {}
+        // `id` is the invocation that is answered, and is over now.
+        Ok(Some(Indication::Result { id, body, .. })) => match body_value(body) {
+            None => show(to, "a result without a value, invocation", id.0),
+            Some(value) => match number_of(octets, value) {
+                Some(n) => show(to, "a reading of", n),
+                None => show(to, "no number of 32 bits, invocation", id.0),
             },
-            // An error is no reading, and never a zero; `code` is 1, the only error in the table.
-            Indication::Error { id, .. } => show(to, b"below detection, invocation ", id.0),
-            Indication::InvokeRejected { id, .. } => show(to, b"a reject, invocation ", id.0),
-            // These three end no invocation.
-            Indication::GeneralReject { .. } => {}
-            Indication::ResultRejected { .. } => {}
-            Indication::ErrorRejected { .. } => {}
-            // The kiosk has no readings to give: it rejects, or the invocation would stay live.
-            Indication::Invoke { id, .. } => return rejected(r, store, id, out),
         },
+        // An error is no reading, and never a zero; `code` is 1, the only error in the table.
+        Ok(Some(Indication::Error { id, .. })) => show(to, "below detection, invocation", id.0),
+        Ok(Some(Indication::InvokeRejected { id, .. })) => show(to, "a reject, invocation", id.0),
+        // The kiosk has no readings to give: it rejects, or the invocation would stay live.
+        Ok(Some(Indication::Invoke { id, .. })) => {
+            let r = rose::reject(end.state, &end.store, &TABLE, id, 3, out);
+            end.state = r.state;
+            return between(out, 0, r.written);
+        }
+        // The other three end no invocation.
+        Ok(Some(_)) => {}
     }
-    r
+    between(out, 0, r.written)
 }
 
-fn show(to: &mut Out<impl Write>, what: &[u8], n: u32) {
-    let mut line = [0u8; 128];
-    let mut at = text::words(&mut line, 0, b"kiosk got   ");
-    at = text::words(&mut line, at, what);
-    at = text::signed(&mut line, at, n);
-    at = text::put(&mut line, at, b'\n');
-    text::print(to, &line, at);
+// A number by its two's complement bits. What is put out is always taken, so that there is no error to pass on.
+fn show(to: &mut Out<impl Write>, what: &str, bits: u32) {
+    let _ = writeln!(to, "kiosk got   {what} {}", bits.cast_signed());
 }

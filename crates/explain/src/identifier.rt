@@ -1,78 +1,102 @@
-// An identifier in words: the universal types by name, every other by its class and number.
-use std::io::Write;
-use text::out::{Out, decimal, name, words};
+// An identifier: its octets, and in words, the universal types by name, every other by its class and number.
+use std::fmt;
+use text::hex::SpacedOctets;
 
-// How many octets the identifier at the front of an element takes.
-pub(crate) fn identifier_octets(element: &[u8]) -> usize {
-    if element.len() == 0 {
-        return 0;
-    }
-    if element[0] % 32 != 31 {
-        return 1;
-    }
-    for k in 1..element.len() {
-        if element[k] < 0x80 {
-            return k + 1;
+// The universal types by their numbers; those from 31 on take several octets.
+const NAMES: [&str; 31] = [
+    "",
+    "BOOLEAN",
+    "INTEGER",
+    "BIT STRING",
+    "OCTET STRING",
+    "NULL",
+    "OBJECT IDENTIFIER",
+    "ObjectDescriptor",
+    "EXTERNAL",
+    "REAL",
+    "ENUMERATED",
+    "EMBEDDED PDV",
+    "UTF8String",
+    "RELATIVE-OID",
+    "",
+    "",
+    "SEQUENCE",
+    "SET",
+    "NumericString",
+    "PrintableString",
+    "TeletexString",
+    "VideotexString",
+    "IA5String",
+    "UTCTime",
+    "GeneralizedTime",
+    "GraphicString",
+    "VisibleString",
+    "GeneralString",
+    "UniversalString",
+    "",
+    "BMPString",
+];
+
+#[derive(Clone, Copy)]
+pub(crate) struct Identifier<'a> {
+    first: u8,
+    behind: &'a [u8],
+}
+
+impl<'a> Identifier<'a> {
+    // The identifier at the front of an element.
+    pub(crate) fn of(element: &'a [u8]) -> Self {
+        let Some((&first, behind)) = element.split_first() else {
+            return Identifier {
+                first: 0,
+                behind: &[],
+            };
+        };
+        if first % 32 != 31 {
+            return Identifier { first, behind: &[] };
         }
+        let last = behind.iter().position(|&octet| octet < 0x80);
+        let behind = last.map_or(behind, |last| &behind[..=last]);
+        Identifier { first, behind }
     }
-    element.len()
-}
 
-// A number of at most 32 bits with seven more behind it.
-fn with_seven_bits(number: u32, b: u8) -> u32 {
-    number % 0x200_0000 * 0x80 + (b % 0x80) as u32
-}
-
-// The number that an identifier of several octets says.
-fn long_number(identifier: &[u8]) -> u32 {
-    let mut number: u32 = 0;
-    for k in 1..identifier.len() {
-        number = with_seven_bits(number, identifier[k]);
+    // Whether it stands before a number, as an INTEGER's and an ENUMERATED's do.
+    pub(crate) fn is_number(&self) -> bool {
+        matches!(self.first, 0x02 | 0x0A)
     }
-    number
-}
 
-fn number_of(identifier: &[u8]) -> u32 {
-    if identifier.len() == 1 {
-        return (identifier[0] % 32) as u32;
+    // Whether it is that of a SEQUENCE or a SET.
+    pub(crate) fn is_sequence_or_set(&self) -> bool {
+        matches!(self.first, 0x30 | 0x31)
     }
-    long_number(identifier)
-}
 
-fn class_and_number(out: &mut Out<impl Write>, class: &[u8], identifier: &[u8]) {
-    words(out, b"[");
-    words(out, class);
-    decimal(out, number_of(identifier) as u64);
-    words(out, b"]");
-}
+    pub(crate) fn is_constructed(&self) -> bool {
+        self.first / 32 % 2 == 1
+    }
 
-// Whether a universal number has no name here; those from 31 on take several octets.
-fn is_unnamed(number: u8) -> bool {
-    match number {
-        0 | 14 | 15 | 29 | 31 => true,
-        _ => false,
+    // Its number, of one above 32 bits the last 32.
+    fn number(&self) -> u32 {
+        if self.behind.is_empty() {
+            return u32::from(self.first % 32);
+        }
+        self.behind.iter().fold(0, |number, &octet| {
+            number % 0x200_0000 * 0x80 + u32::from(octet % 0x80)
+        })
     }
 }
 
-fn universal_name(out: &mut Out<impl Write>, identifier: &[u8], number: u8) {
-    if is_unnamed(number) {
-        class_and_number(out, b"UNIVERSAL ", identifier);
-        return;
-    }
-    let names =
-        b"|BOOLEAN|INTEGER|BIT STRING|OCTET STRING|NULL|OBJECT IDENTIFIER|ObjectDescriptor|EXTERNAL|REAL|ENUMERATED|EMBEDDED PDV|UTF8String|RELATIVE-OID|||SEQUENCE|SET|NumericString|PrintableString|TeletexString|VideotexString|IA5String|UTCTime|GeneralizedTime|GraphicString|VisibleString|GeneralString|UniversalString||BMPString";
-    name(out, names, number as usize);
-}
-
-// The name of the identifier whose octets these are.
-pub(crate) fn identifier_name(out: &mut Out<impl Write>, identifier: &[u8]) {
-    if identifier.len() == 0 {
-        return;
-    }
-    match identifier[0] / 64 {
-        0 => universal_name(out, identifier, identifier[0] % 32),
-        1 => class_and_number(out, b"APPLICATION ", identifier),
-        2 => class_and_number(out, b"", identifier),
-        _ => class_and_number(out, b"PRIVATE ", identifier),
+impl fmt::Display for Identifier<'_> {
+    fn fmt<W: fmt::Write>(&self, f: &mut fmt::Formatter<W>) -> fmt::Result {
+        let number = self.number();
+        write!(f, " {:02x}{} ", self.first, SpacedOctets(self.behind))?;
+        match self.first / 64 {
+            0 => match NAMES.get(usize::from(self.first % 32)) {
+                Some(name) if !name.is_empty() => write!(f, "{name}"),
+                _ => write!(f, "[UNIVERSAL {number}]"),
+            },
+            1 => write!(f, "[APPLICATION {number}]"),
+            2 => write!(f, "[{number}]"),
+            _ => write!(f, "[PRIVATE {number}]"),
+        }
     }
 }

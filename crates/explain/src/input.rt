@@ -1,79 +1,94 @@
 // The text that is given as arguments or on standard input, and complaints about it on standard error.
+use arrayvec::ArrayVec;
+use std::fmt::Write as _;
 use std::io::{Read, Write};
 use std::rt::Env;
 use text::fault::fault;
-use text::hex::Hex;
+use text::hex::HexFault;
 use text::input::{argument_count, read_full};
-use text::out::Out;
-use text::{out, print, put, words};
+use text::out::{Out, words};
+use text::print;
 
-// How much text there is, or too much.
+// The octets of a buffer that text does not fill.
+pub(crate) const ROOM: usize = 262_144;
+
+// What is wrong with the text.
 #[derive(Clone, Copy)]
-pub(crate) enum Given {
-    Text(usize),
+pub(crate) enum Complaint<'a> {
     TooLong,
+    Wrong { text: &'a [u8], found: HexFault },
 }
 
-// An argument behind those before it, with a line end, so that its number is that of its line.
-fn with_argument(
+impl<'a> Complaint<'a> {
+    pub(crate) fn of(text: &'a [u8], found: HexFault) -> Self {
+        match found {
+            HexFault::Long => Complaint::TooLong,
+            _ => Complaint::Wrong { text, found },
+        }
+    }
+
+    // What is told is always taken, so that there is no error to pass on. The line stands in an array, since there is no heap.
+    pub(crate) fn tell(&self, rt: &impl Env, err: &mut Out<impl Write>) {
+        words(err, b"explain: ");
+        let _ = match *self {
+            Complaint::TooLong => writeln!(
+                err,
+                "the input is too long: give at most 32,768 octets; an APDU has at most 4,096"
+            ),
+            Complaint::Wrong { text, found } => {
+                let unit: &[u8] = if has_arguments(rt) {
+                    b"argument"
+                } else {
+                    b"line"
+                };
+                let mut line = [0u8; 128];
+                let end = fault(&mut line, 0, unit, text, Err(found));
+                print(err, &line, end);
+                writeln!(
+                    err,
+                    "; give two digits for each octet, and comments behind #"
+                )
+            }
+        };
+    }
+}
+
+fn has_arguments(rt: &impl Env) -> bool {
+    argument_count(rt) > 1
+}
+
+// The arguments, each with a line end, so that its number is that of its line. They are counted by hand, since std's iterator over them asks for memory.
+fn arguments(
     rt: &impl Env,
-    text: &mut [u8],
+    text: &mut ArrayVec<u8, ROOM>,
     argument: &mut [u8],
-    at: usize,
-    i: usize,
-) -> usize {
-    let Ok(n) = rt.arg(i, argument) else {
-        return text.len();
-    };
-    let end = words(text, at, &argument[..n]);
-    put(text, end, b'\n')
-}
-
-fn arguments(rt: &impl Env, text: &mut [u8], argument: &mut [u8], count: usize) -> usize {
-    let mut at: usize = 0;
-    for i in 1..count {
-        at = with_argument(rt, text, argument, at, i);
+) -> Result<(), Complaint<'static>> {
+    for i in 1..argument_count(rt) {
+        let n = rt.arg(i, argument).map_err(|_| Complaint::TooLong)?;
+        text.try_extend_from_slice(&argument[..n])
+            .map_err(|_| Complaint::TooLong)?;
+        text.try_push(b'\n').map_err(|_| Complaint::TooLong)?;
     }
-    at
-}
-
-fn all_text(rt: &impl Env, input: &mut impl Read, text: &mut [u8], argument: &mut [u8]) -> usize {
-    let count = argument_count(rt);
-    if count > 1 {
-        return arguments(rt, text, argument, count);
-    }
-    read_full(input, text)
+    Ok(())
 }
 
 // Text that fills its buffer may be longer.
-pub(crate) fn read_text(
+pub(crate) fn read_text<'a>(
     rt: &impl Env,
     input: &mut impl Read,
-    text: &mut [u8],
-    argument: &mut [u8],
-) -> Given {
-    let n = all_text(rt, input, text, argument);
-    if n < text.len() {
-        return Given::Text(n);
+    text: &'a mut ArrayVec<u8, ROOM>,
+    buffer: &'a mut [u8],
+) -> Result<&'a [u8], Complaint<'a>> {
+    let given = if has_arguments(rt) {
+        arguments(rt, text, buffer)?;
+        text.as_slice()
+    } else {
+        let n = read_full(input, buffer);
+        &buffer[..n]
+    };
+    if given.len() < ROOM {
+        Ok(given)
+    } else {
+        Err(Complaint::TooLong)
     }
-    Given::TooLong
-}
-
-// What is wrong with the text, by the number of its argument or line.
-fn fault_words(rt: &impl Env, line: &mut [u8], text: &[u8], found: Hex) -> usize {
-    if argument_count(rt) > 1 {
-        return fault(line, 0, b"argument", text, found);
-    }
-    fault(line, 0, b"line", text, found)
-}
-
-pub(crate) fn wrong_text(rt: &impl Env, err: &mut Out<impl Write>, text: &[u8], found: Hex) {
-    let mut line = [0u8; 128];
-    let end = fault_words(rt, &mut line, text, found);
-    out::words(err, b"explain: ");
-    print(err, &line, end);
-    out::words(
-        err,
-        b"; give two digits for each octet, and comments behind #\n",
-    );
 }

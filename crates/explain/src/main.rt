@@ -1,87 +1,54 @@
 // Octets in hexadecimal, from the arguments or standard input, in words: the tree of their elements, then what the APDU says or why it is refused.
 #![tactic(auto)]
 
-mod element;
 mod identifier;
 mod input;
+mod line;
+mod octets;
 mod refusal;
 mod said;
 mod tree;
 mod verdict;
 
-use input::{Given, read_text, wrong_text};
+use arrayvec::ArrayVec;
+use input::{Complaint, ROOM, read_text};
+use std::fmt;
 use std::io::{Read, Write};
 use std::rt::Env;
-use text::hex::{Hex, read_hex};
-use text::out::{Out, words};
+use text::hex::read_hex;
+use text::out::Out;
 use tree::tree;
 use verdict::verdict;
 
-fn explain(out: &mut Out<impl Write>, octets: &[u8]) {
-    tree(out, octets);
-    verdict(out, octets);
+fn explain(out: &mut Out<impl Write>, octets: &[u8]) -> fmt::Result {
+    tree(out, octets)?;
+    verdict(out, octets)
 }
 
-fn long(err: &mut Out<impl Write>) {
-    words(
-        err,
-        b"explain: the input is too long: give at most 32,768 octets; an APDU has at most 4,096\n",
-    );
-}
-
-fn read(
-    rt: &impl Env,
-    out: &mut Out<impl Write>,
-    err: &mut Out<impl Write>,
-    text: &[u8],
-    octets: &mut [u8],
-) {
-    let found = read_hex(text, octets);
-    match found {
-        Hex::Of(count) => {
-            if count <= octets.len() {
-                explain(out, &octets[0..count]);
-            }
-        }
-        Hex::Long => long(err),
-        _ => wrong_text(rt, err, text, found),
-    }
-}
-
-fn run(
+// A complaint shows the text that it is about, which stays in the buffers lent. These and the octets are arrays, since there is no heap.
+fn run<'a>(
     rt: &impl Env,
     input: &mut impl Read,
     out: &mut Out<impl Write>,
-    err: &mut Out<impl Write>,
-    text: &mut [u8],
-    argument: &mut [u8],
-    octets: &mut [u8],
-) {
-    match read_text(rt, input, text, argument) {
-        Given::TooLong => long(err),
-        Given::Text(n) => {
-            if n <= text.len() {
-                read(rt, out, err, &text[0..n], octets);
-            }
-        }
-    }
+    text: &'a mut ArrayVec<u8, ROOM>,
+    buffer: &'a mut [u8],
+) -> Result<(), Complaint<'a>> {
+    let text = read_text(rt, input, text, buffer)?;
+    let mut octets = [0u8; 32768];
+    let count = read_hex(text, &mut octets).map_err(|found| Complaint::of(text, found))?;
+    // What is put out is always taken, so that there is no error to pass on.
+    let _ = explain(out, octets.get(..count).unwrap_or(&[]));
+    Ok(())
 }
 
 fn main(rt: HostRuntime) {
-    let mut text = [0u8; 262144];
-    let mut argument = [0u8; 262144];
-    let mut octets = [0u8; 32768];
     let mut out = Out::new(rt.stdout());
     let mut err = Out::new(rt.stderr());
-    run(
-        &rt,
-        &mut rt.stdin(),
-        &mut out,
-        &mut err,
-        &mut text,
-        &mut argument,
-        &mut octets,
-    );
+    let mut text = ArrayVec::new();
+    let mut buffer = [0u8; ROOM];
+    if let Err(complaint) = run(&rt, &mut rt.stdin(), &mut out, &mut text, &mut buffer) {
+        complaint.tell(&rt, &mut err);
+    }
     out.flush();
     err.flush();
 }

@@ -1,189 +1,138 @@
 // The rule that an entry breaks, in words.
-use crate::entry::{name_digits, part_name};
-use crate::service::{no_acknowledge, service_argument, service_class, service_result};
-use codes::{Form, Name};
-use optable::read::{
-    count, edition, error_at, first_at, name_at, octet_at, operation_at, second_at, second_part,
-};
-use optable::{Breach, Edition, Operation, Part, Rule};
-use std::io::Write;
-use text::out::{Out, decimal, octet, words};
+use crate::entry::Entry;
+use crate::service::no_acknowledge;
+use codes::NameFault;
+use optable::read::{count, edition, error_at, name_at, octet_at, operation_at, second_part};
+use optable::{Breach, Edition, Part, Rule};
+use std::fmt;
+use std::fmt::{Formatter, Write};
+use text::hex::Octets;
 
-fn class_breach(out: &mut Out<impl Write>, class: u8) {
-    words(out, b"class is ");
-    decimal(out, class as u64);
-    words(out, b", expected 1 to 5");
+// An entry, and the rule that it breaks.
+#[derive(Clone, Copy)]
+pub(crate) struct Broken<'a> {
+    pub(crate) entry: Entry<'a>,
+    pub(crate) breach: Breach,
 }
 
-// The octet of an entry that has its flags.
-fn flags_of(table: &[u8], part: Part, i: u16) -> u8 {
-    match part {
-        Part::Operations => octet_at(table, part, i, 7),
-        _ => octet_at(table, part, i, 5),
-    }
-}
-
-fn operation_flags(out: &mut Out<impl Write>, e: Edition) {
-    match e {
-        Edition::First => words(out, b", expected 00 to 03"),
-        Edition::Second => words(out, b", expected 00 to 0f"),
-    }
-}
-
-fn error_flags(out: &mut Out<impl Write>, e: Edition) {
-    match e {
-        Edition::First => words(out, b", expected 00 or 01"),
-        Edition::Second => words(out, b", expected 00 to 03"),
-    }
-}
-
-fn flags_breach(out: &mut Out<impl Write>, e: Edition, part: Part, flags: u8) {
-    words(out, b"flags are ");
-    octet(out, flags);
-    match part {
-        Part::Operations => operation_flags(out, e),
-        _ => error_flags(out, e),
-    }
-}
-
-fn flag_breach(out: &mut Out<impl Write>, name: &[u8]) {
-    words(out, name);
-    words(out, b" is optional but has type 00");
-}
-
-fn type_breach(out: &mut Out<impl Write>, name: &[u8], rule: Rule) {
-    words(out, name);
-    words(out, b" type is ");
-    octet(out, rule.identifier);
-    words(out, b", whose low five bits are all ones");
-}
-
-fn unexpected_breach(out: &mut Out<impl Write>, operation: Operation) {
-    words(out, b"result type is ");
-    octet(out, operation.result().identifier);
-    words(out, b", expected 00 for class ");
-    decimal(out, operation.class() as u64);
-}
-
-fn index_breach(out: &mut Out<impl Write>, name: &[u8], index: u32, limit: u16) {
-    words(out, name);
-    words(out, b" index is ");
-    decimal(out, index as u64);
-    words(out, b", expected below ");
-    decimal(out, limit as u64);
-}
-
-// The index of a name stands in four octets, where a pair has its two indexes.
-fn name_index(table: &[u8], part: Part, i: u16) -> u32 {
-    (first_at(table, part, i) as u32) * 65536 + (second_at(table, part, i) as u32)
-}
-
-fn name_index_breach(out: &mut Out<impl Write>, table: &[u8], part: Part, i: u16) {
-    let limit = count(table, Part::Names);
-    index_breach(out, b"name", name_index(table, part, i), limit);
-}
-
-fn first_breach(out: &mut Out<impl Write>, table: &[u8], part: Part, i: u16) {
-    let limit = count(table, Part::Operations);
-    index_breach(out, b"first", first_at(table, part, i) as u32, limit);
-}
-
-fn second_breach(out: &mut Out<impl Write>, table: &[u8], part: Part, i: u16) {
-    let limit = count(table, second_part(part));
-    index_breach(out, b"second", second_at(table, part, i) as u32, limit);
-}
-
-fn pair_class_breach(out: &mut Out<impl Write>, table: &[u8], part: Part, i: u16) {
-    let operation = first_at(table, part, i);
-    let class = operation_at(table, operation).class();
-    words(out, b"operation ");
-    decimal(out, operation as u64);
-    words(out, b" is of class ");
-    decimal(out, class as u64);
-    words(out, b", which has no ");
-    part_name(out, part);
-}
-
-fn is_pair(part: Part) -> bool {
-    match part {
-        Part::Operations => false,
-        Part::Errors => false,
-        Part::ErrorPairs => true,
-        Part::ChildPairs => true,
-        Part::Names => false,
-    }
-}
-
-fn order_breach(out: &mut Out<impl Write>, part: Part) {
-    if is_pair(part) {
-        words(out, b"pairs do not rise");
-        return;
-    }
-    words(out, b"codes do not rise");
-}
-
-fn length_breach(out: &mut Out<impl Write>, length: u8) {
-    words(out, b"length is ");
-    decimal(out, length as u64);
-    words(out, b", expected 1 to 16");
-}
-
-fn form_breach(out: &mut Out<impl Write>, name: Name, form: Form) {
-    match form {
-        Form::Right => {}
-        Form::Length => length_breach(out, name.length),
-        Form::Contents => {
-            name_digits(out, name);
-            words(out, b" is no OBJECT IDENTIFIER");
-        }
-        Form::Padding => words(out, b"octets behind its length are not 0"),
-    }
-}
-
-// The first index that has the name at an index.
-fn first_same(table: &[u8], i: u16) -> u16 {
-    let name = name_at(table, i as u32);
-    for j in 0..i {
-        if name_at(table, j as u32).same(name) {
-            return j;
+impl fmt::Display for Broken<'_> {
+    fn fmt<W: Write>(&self, f: &mut Formatter<W>) -> fmt::Result {
+        let entry = self.entry;
+        match self.breach {
+            Breach::Class => write!(f, "class is {}, expected 1 to 5", entry.octet(4)),
+            Breach::Flags => entry.flags(f),
+            Breach::ArgumentFlag => write!(f, "argument is optional but has type 00"),
+            Breach::ArgumentType => all_ones(f, "argument", entry.operation().argument),
+            Breach::ResultFlag => write!(f, "result is optional but has type 00"),
+            Breach::ResultType => all_ones(f, "result", entry.operation().result),
+            Breach::ResultUnexpected => entry.unexpected_result(f),
+            Breach::ParameterFlag => write!(f, "parameter is optional but has type 00"),
+            Breach::ParameterType => all_ones(f, "parameter", error_at(entry.table, entry.index)),
+            Breach::NameIndex => entry.name_index(f),
+            Breach::ServiceClass => entry.service_class(f),
+            Breach::ServiceArgument => entry.service_argument(f),
+            Breach::ServiceResult => entry.service_result(f),
+            Breach::NoAcknowledge => no_acknowledge(f),
+            Breach::FirstIndex => entry.first_index(f),
+            Breach::SecondIndex => entry.second_index(f),
+            Breach::PairClass => entry.pair_class(f),
+            Breach::NameForm(fault) => entry.name_form(f, fault),
+            Breach::Order => entry.order(f),
+            Breach::Repeated => write!(f, "the same as name {}", entry.first_same()),
         }
     }
-    i
 }
 
-fn repeated_breach(out: &mut Out<impl Write>, table: &[u8], i: u16) {
-    words(out, b"the same as name ");
-    decimal(out, first_same(table, i) as u64);
+fn all_ones<W: Write>(f: &mut Formatter<W>, of: &str, rule: Rule) -> fmt::Result {
+    let identifier = rule.identifier;
+    write!(
+        f,
+        "{of} type is {identifier:02x}, whose low five bits are all ones"
+    )
 }
 
-pub(crate) fn breach_words(
-    out: &mut Out<impl Write>,
-    table: &[u8],
-    part: Part,
-    i: u16,
-    breach: Breach,
-) {
-    match breach {
-        Breach::Unbroken => {}
-        Breach::Class => class_breach(out, operation_at(table, i).class()),
-        Breach::Flags => flags_breach(out, edition(table), part, flags_of(table, part, i)),
-        Breach::ArgumentFlag => flag_breach(out, b"argument"),
-        Breach::ArgumentType => { type_breach(out, b"argument", operation_at(table, i).argument()) }
-        Breach::ResultFlag => flag_breach(out, b"result"),
-        Breach::ResultType => type_breach(out, b"result", operation_at(table, i).result()),
-        Breach::ResultUnexpected => unexpected_breach(out, operation_at(table, i)),
-        Breach::ParameterFlag => flag_breach(out, b"parameter"),
-        Breach::ParameterType => { type_breach(out, b"parameter", error_at(table, i).parameter()) }
-        Breach::NameIndex => name_index_breach(out, table, part, i),
-        Breach::ServiceClass => service_class(out, table, i),
-        Breach::ServiceArgument => service_argument(out, table, i),
-        Breach::ServiceResult => service_result(out, table, i),
-        Breach::NoAcknowledge => no_acknowledge(out),
-        Breach::FirstIndex => first_breach(out, table, part, i),
-        Breach::SecondIndex => second_breach(out, table, part, i),
-        Breach::PairClass => pair_class_breach(out, table, part, i),
-        Breach::NameForm(form) => form_breach(out, name_at(table, i as u32), form),
-        Breach::Order => order_breach(out, part),
-        Breach::Repeated => repeated_breach(out, table, i),
+fn index<W: Write>(f: &mut Formatter<W>, of: &str, found: u32, limit: u16) -> fmt::Result {
+    write!(f, "{of} index is {found}, expected below {limit}")
+}
+
+impl Entry<'_> {
+    fn octet(&self, n: u8) -> u8 {
+        octet_at(self.table, self.part, self.index, n)
+    }
+
+    fn flags<W: Write>(&self, f: &mut Formatter<W>) -> fmt::Result {
+        let flags = match self.part {
+            Part::Operations => self.octet(7),
+            _ => self.octet(5),
+        };
+        let expected = match (self.part, edition(self.table)) {
+            (Part::Operations, Edition::First) => "00 to 03",
+            (Part::Operations, Edition::Second) => "00 to 0f",
+            (_, Edition::First) => "00 or 01",
+            (_, Edition::Second) => "00 to 03",
+        };
+        write!(f, "flags are {flags:02x}, expected {expected}")
+    }
+
+    fn unexpected_result<W: Write>(&self, f: &mut Formatter<W>) -> fmt::Result {
+        let operation = self.operation();
+        let found = operation.result.identifier;
+        let class = u8::from(operation.class);
+        write!(
+            f,
+            "result type is {found:02x}, expected 00 for class {class}"
+        )
+    }
+
+    // The index of a name stands in four octets, where a pair has its two indexes.
+    fn name_index<W: Write>(&self, f: &mut Formatter<W>) -> fmt::Result {
+        let found = u32::from(self.first()) * 0x1_0000 + u32::from(self.second());
+        index(f, "name", found, count(self.table, Part::Names))
+    }
+
+    fn first_index<W: Write>(&self, f: &mut Formatter<W>) -> fmt::Result {
+        let limit = count(self.table, Part::Operations);
+        index(f, "first", u32::from(self.first()), limit)
+    }
+
+    fn second_index<W: Write>(&self, f: &mut Formatter<W>) -> fmt::Result {
+        let limit = count(self.table, second_part(self.part));
+        index(f, "second", u32::from(self.second()), limit)
+    }
+
+    fn pair_class<W: Write>(&self, f: &mut Formatter<W>) -> fmt::Result {
+        let first = self.first();
+        let class = u8::from(operation_at(self.table, first).class);
+        let part = self.part;
+        write!(
+            f,
+            "operation {first} is of class {class}, which has no {part}"
+        )
+    }
+
+    fn name_form<W: Write>(&self, f: &mut Formatter<W>, fault: NameFault) -> fmt::Result {
+        let name = self.name();
+        match fault {
+            NameFault::Length => write!(f, "length is {}, expected 1 to 16", name.length),
+            NameFault::Contents => {
+                write!(f, "{} is no OBJECT IDENTIFIER", Octets(name.contents()))
+            }
+            NameFault::Padding => write!(f, "octets behind its length are not 0"),
+        }
+    }
+
+    fn order<W: Write>(&self, f: &mut Formatter<W>) -> fmt::Result {
+        match self.part {
+            Part::ErrorPairs | Part::ChildPairs => write!(f, "pairs do not rise"),
+            _ => write!(f, "codes do not rise"),
+        }
+    }
+
+    // The first index that has the name at this one.
+    fn first_same(&self) -> u16 {
+        let name = self.name();
+        (0..self.index)
+            .find(|&j| name_at(self.table, j as u32).same(name))
+            .unwrap_or(self.index)
     }
 }

@@ -1,58 +1,16 @@
 // What a table's octets say, an octet behind the end being 0.
 ghost use Rattle.std.specs.Prelude.{◌≡◌, true, ◌+◌, ◌<◌, ◌≤◌, length};
-ghost use Rattle.base.specs.Octets.{u16, u32, u64};
+ghost use Rattle.base.specs.Octets.{u16, u32};
 ghost use Rattle.optable.specs.Read.{edition, header_of, name_here, has_part, counts_at, head_of, size_of, count, start, entry_start, octet_at, key_at, name_at, code_of, code_at, operation_at, idempotent_at, error_at, first_at, second_at, second_part, kind_of};
 ghost use Rattle.optable.specs.Validity.{limit_of, behind};
 ghost use Rattle.optable.specs.Steps.{in_every};
 
-use crate::{Edition, Error, Operation, Part, Rule};
-use base::octets::{eight, four, octet, two};
+use crate::{Class, Edition, Operation, Part, Rule};
+use base::octets::{four, octet, octets, two};
 use codes::search::key_at;
 use codes::{Code, Key, Kind, Name};
 
-// Two octets that the table has.
-pub(crate) fn two_within(table: &[u8], at: usize) -> u16
-    requires { at + 2 ≤ length table.now }
-    ensures { result ≡ u16 table.now at }
-{
-    (table[at] as u16) * 256 + (table[at + 1] as u16)
-}
-
-// Four octets that the table has.
-pub(crate) fn four_within(table: &[u8], at: usize) -> u32
-    requires { at + 4 ≤ length table.now }
-    ensures value { result ≡ u32 table.now at }
-    ensures low { u16 table.now (at + 2) < 65536 }
-{
-    let high = two_within(table, at);
-    let low = two_within(table, at + 2);
-    (high as u32) * 65536 + (low as u32)
-}
-
-// Eight octets that the table has.
-fn eight_within(table: &[u8], at: usize) -> u64
-    requires { at + 8 ≤ length table.now }
-    ensures { result ≡ u64 table.now at }
-{
-    let high = four_within(table, at);
-    let low = four_within(table, at + 4);
-    (high as u64) * 4294967296 + (low as u64)
-}
-
-// A name that the table has, by its place.
-#[tactic(auto, unfolding(crate::specs::Read::name_here))]
-pub(crate) fn name_within(table: &[u8], at: usize) -> Name
-    requires { at + 17 ≤ length table.now }
-    ensures { result ≡ name_here table.now at }
-{
-    Name {
-        length: table[at],
-        high: eight_within(table, at + 1),
-        low: eight_within(table, at + 9),
-    }
-}
-
-#[tactic(auto, using(crate::proofs::ReadAnswers::second_edition, crate::proofs::ReadAnswers::first_edition))]
+#[tactic(auto, unfolding(crate::specs::Read::edition))]
 pub fn edition(table: &[u8]) -> Edition
     ensures { result ≡ edition table.now }
 {
@@ -76,19 +34,13 @@ pub fn header_of(e: Edition) -> usize
 pub fn has_part(e: Edition, part: Part) -> bool
     ensures { result ≡ has_part e part }
 {
-    match e {
-        Edition::Second => true,
-        Edition::First => match part {
-            Part::Operations => true,
-            Part::Errors => true,
-            Part::ErrorPairs => true,
-            Part::ChildPairs => true,
-            Part::Names => false,
-        },
+    match (e, part) {
+        (Edition::First, Part::Names) => false,
+        _ => true,
     }
 }
 
-fn counts_at(e: Edition) -> usize
+pub(crate) fn counts_at(e: Edition) -> usize
     ensures value { result ≡ counts_at e }
     ensures most { result ≤ 4 }
 {
@@ -98,7 +50,7 @@ fn counts_at(e: Edition) -> usize
     }
 }
 
-fn head_of(part: Part) -> usize
+pub(crate) fn head_of(part: Part) -> usize
     ensures value { result ≡ head_of part }
     ensures most { result ≤ 16 }
 {
@@ -118,8 +70,7 @@ pub(crate) fn size_of(part: Part) -> usize
     match part {
         Part::Operations => 8,
         Part::Errors => 6,
-        Part::ErrorPairs => 4,
-        Part::ChildPairs => 4,
+        Part::ErrorPairs | Part::ChildPairs => 4,
         Part::Names => 17,
     }
 }
@@ -129,28 +80,23 @@ pub fn limit_of(part: Part) -> u16
     ensures { result ≡ limit_of part }
 {
     match part {
-        Part::Operations => 64,
-        Part::Errors => 64,
-        Part::ErrorPairs => 256,
-        Part::ChildPairs => 256,
+        Part::Operations | Part::Errors => 64,
+        Part::ErrorPairs | Part::ChildPairs => 256,
         Part::Names => 128,
     }
 }
 
-// The part that a pair's second index is of.
+// The part that a pair's second index is of; of another part it is Operations, as `second_part` has it.
 pub fn second_part(part: Part) -> Part
     ensures { result ≡ second_part part }
 {
     match part {
-        Part::Operations => Part::Operations,
-        Part::Errors => Part::Operations,
         Part::ErrorPairs => Part::Errors,
-        Part::ChildPairs => Part::Operations,
-        Part::Names => Part::Operations,
+        _ => Part::Operations,
     }
 }
 
-#[tactic(auto, using(crate::proofs::ReadAnswers::count_there, crate::proofs::ReadAnswers::count_none))]
+#[tactic(auto, unfolding(crate::specs::Read::count))]
 pub fn count(table: &[u8], part: Part) -> u16
     ensures { result ≡ count table.now part }
 {
@@ -168,52 +114,8 @@ pub fn start(table: &[u8], part: Part) -> u16
     two(table, counts_at(edition(table)) + head_of(part) + 2)
 }
 
-// Where a part starts and how many entries it has.
-#[derive(Clone, Copy)]
-pub(crate) struct Head {
-    pub start: u16,
-    pub count: u16,
-}
-
-// Both in one read, for a part that every edition has.
-pub(crate) fn head_at(table: &[u8], part: Part) -> Head
-    requires { in_every part ≡ true }
-    ensures starts { result.start ≡ start table.now part }
-    ensures counts { result.count ≡ count table.now part }
-{
-    let head = four(table, counts_at(edition(table)) + head_of(part));
-    Head {
-        start: (head % 65536) as u16,
-        count: (head / 65536) as u16,
-    }
-}
-
-// A part's count and start, read of a table that has its header.
-#[tactic(auto, using(crate::proofs::ReadAnswers::head_inside, crate::proofs::ReadAnswers::count_there, crate::proofs::ReadAnswers::count_none))]
-pub(crate) fn count_within(table: &[u8], e: Edition, part: Part) -> u16
-    requires same_edition { e ≡ edition table.now }
-    requires header { header_of e ≤ length table.now }
-    ensures { result ≡ count table.now part }
-{
-    if has_part(e, part) {
-        return two_within(table, counts_at(e) + head_of(part));
-    }
-    0
-}
-
-// The start of a part that the edition has.
-#[tactic(auto, using(crate::proofs::ReadAnswers::head_inside), unfolding(crate::specs::Read::start))]
-pub(crate) fn start_within(table: &[u8], e: Edition, part: Part) -> u16
-    requires same_edition { e ≡ edition table.now }
-    requires header { header_of e ≤ length table.now }
-    requires there { has_part e part ≡ true }
-    ensures { result ≡ start table.now part }
-{
-    two_within(table, counts_at(e) + head_of(part) + 2)
-}
-
-// Where entry `i` starts, so near that no sum with it wraps.
-#[tactic(auto, using(crate::proofs::ReadAnswers::entry_far), unfolding(crate::specs::Read::entry_start))]
+// Where entry `i` starts, so near that no sum with it wraps. Octets, part and index stay parameters: what Read defines is of these three, and of any octets.
+#[tactic(auto, unfolding(crate::specs::Read::entry_start))]
 fn entry_start(table: &[u8], part: Part, i: u16) -> usize
     ensures value { result ≡ entry_start table.now part i }
     ensures near { result < 2097152 }
@@ -237,16 +139,13 @@ pub fn octet_at(table: &[u8], part: Part, i: u16, n: u8) -> u8
     octet(table, entry_start(table, part, i) + (n as usize))
 }
 
-// The kind of a part's entries, where they have a code.
+// The kind of a part's entries, where they have a code; else it is Operation, as `kind_of` has it.
 pub(crate) fn kind_of(part: Part) -> Kind
     ensures { result ≡ kind_of part }
 {
     match part {
-        Part::Operations => Kind::Operation,
         Part::Errors => Kind::Error,
-        Part::ErrorPairs => Kind::Operation,
-        Part::ChildPairs => Kind::Operation,
-        Part::Names => Kind::Operation,
+        _ => Kind::Operation,
     }
 }
 
@@ -265,20 +164,19 @@ pub fn name_at(table: &[u8], i: u32) -> Name
     let at = (start(table, Part::Names) as usize) + (i as usize) * 17;
     Name {
         length: octet(table, at),
-        high: eight(table, at + 1),
-        low: eight(table, at + 9),
+        octets: octets(table, at + 1),
     }
 }
 
 // The code that stands so in an entry.
-#[tactic(auto, using(crate::proofs::ReadAnswers::code_named, crate::proofs::ReadAnswers::code_unnamed))]
+#[tactic(auto, unfolding(crate::specs::Read::code_of))]
 fn code_of(table: &[u8], key: Key) -> Code
     ensures { result ≡ code_of table.now key }
 {
-    if key.named {
-        return Code::Global(name_at(table, key.number));
+    match key {
+        Key::Bits(bits) => Code::Local(bits),
+        Key::Index(index) => Code::Global(name_at(table, index)),
     }
-    Code::Local(key.number)
 }
 
 #[tactic(auto, unfolding(crate::specs::Read::code_at))]
@@ -295,6 +193,7 @@ pub fn first_at(table: &[u8], part: Part, i: u16) -> u16
     two(table, entry_start(table, part, i))
 }
 
+// Beside `first_at`: a reader of one line for each index, as Read defines them.
 #[tactic(auto, unfolding(crate::specs::Read::second_at))]
 pub fn second_at(table: &[u8], part: Part, i: u16) -> u16
     ensures { result ≡ second_at table.now part i }
@@ -308,8 +207,8 @@ pub fn operation_at(table: &[u8], i: u16) -> Operation
 {
     let at = entry_start(table, Part::Operations, i);
     let flags = octet(table, at + 7);
-    Operation::Listed {
-        class: octet(table, at + 4),
+    Operation {
+        class: Class::from(octet(table, at + 4)),
         argument: Rule {
             identifier: octet(table, at + 5),
             optional: flags % 2 == 1,
@@ -328,14 +227,14 @@ pub fn idempotent_at(table: &[u8], i: u16) -> bool
     octet_at(table, Part::Operations, i, 7) / 8 % 2 == 1
 }
 
+// Not one with `operation_at`: an error's entry has other fields, in other octets.
 #[tactic(auto, unfolding(crate::specs::Read::error_at, crate::specs::Read::octet_at))]
-pub fn error_at(table: &[u8], i: u16) -> Error
+pub fn error_at(table: &[u8], i: u16) -> Rule
     ensures { result ≡ error_at table.now i }
 {
     let at = entry_start(table, Part::Errors, i);
-    let flag = octet(table, at + 5);
-    Error::Known(Rule {
+    Rule {
         identifier: octet(table, at + 4),
-        optional: flag % 2 == 1,
-    })
+        optional: octet(table, at + 5) % 2 == 1,
+    }
 }

@@ -3,31 +3,31 @@ use Prim.Native.Nat.{ℕ, ◌+◌, ◌*◌}
 use mathlib.Core.Path.{◌≡◌, refl}
 use mathlib.Core.List.{List, [], ◌∷◌, ◌++◌, map}
 use lib.ListN.{length}
-use Rattle.ber.specs.Header.{number_from, digits, continued, one_of, high_tag, high_tag_octets, identifier_octets, constructed, length_of, length_count, length_octets, header_with, header_of}
+use Rattle.ber.specs.Header.{number_from, digits, one_of, high_tag, high_tag_behind, high_tag_octets, identifier_octets, constructed, length_of, length_count, length_octets, header_with, header_behind, header_of}
 use Rattle.ber.specs.Rule.{shortest, parts, content_rule}
 use Rattle.base.specs.Lists.{non_empty}
 use Rattle.ber.specs.Element.{closes, found_behind, behind_first, elements_in, filled_behind, closed_behind, made, element_with, element_of, size_in, size, fills, well_formed, finding_with, finding_in, frame_with, frame_of, element_octets}
 use Rattle.ber.specs.Integer.{sign_of, pattern, integer_of, fits_octets, octet_count, integer_octets}
 use Rattle.base.specs.Count.{every, any}
-use Rattle.codes.specs.Code.{name_octets, name_contents, name_of, same_name, name_form, name_right, same_code, code_right}
+use Rattle.base.specs.Octets.{zero_filled}
+use Rattle.codes.specs.Code.{name_contents, name_of, same_name, name_form, name_right, same_code, code_right}
 use Rattle.codes.specs.Count.{seek}
 use Rattle.codes.specs.Search.{key_here, key_in}
-use Rattle.records.specs.Records.{stored, is_local, code_of as code_stored}
 use Rattle.records.specs.Kept.{keeping, view_kept, pack_kept, pack_store, sound_kept}
 use Rattle.optable.specs.Read.{edition, count, start, entry_start, octet_at, key_at, name_here, name_at, code_of as code_held, code_at, idempotent_at, has_code, operation_at, error_at, first_at, second_at}
 use Rattle.optable.specs.Service.{service_of}
 use Rattle.optable.specs.Validity.{service_at, demands, service_right, partner_right, within_limit, behind, edition_right, filled, laid_out, rule_right, result_right, operation_right, error_right, pair_below, pair_right, allowed, above, rises, same_names, new_name, stands_right, key_right, fields_right, entry_right, part_right, valid}
-use Rattle.optable.specs.Lookup.{find, operation_in, idempotent_in, idempotent_of, operation_of, error_in, error_of, joins, joined, parent_at, has_child, room_needed}
+use Rattle.optable.specs.Lookup.{find, idempotent_of, operation_of, error_of, joins, joined, parent_at, has_child, room_needed}
 use Rattle.optable.specs.Value.{value_right}
 use Rattle.apdu.specs.Field.{fields_with, fields_by, fields_in}
-use Rattle.apdu.specs.Parse.{number_of, number_under, is_code, local_code, name_code, code_of, coded_with, coded_of, linked_with, linked_of, invoke_with, invoke_behind, result_with, result_behind, most_problem, is_problem, id_allowed, reject_with, reject_behind, reject_of, behind_id, with_id, by_kind, parse_at, parse, error_behind}
+use Rattle.apdu.specs.Parse.{number_under, is_code, local_code, name_code, code_of, coded_with, coded_of, linked_with, linked_of, invoke_with, invoke_behind, result_with, result_behind, most_problem, is_problem, id_allowed, reject_with, reject_behind, reject_of, behind_id, with_id, by_kind, parse_at, parse, error_behind}
 use Rattle.apdu.specs.Inside.{only_frame, inside_at, id_at}
 use Rattle.apdu.specs.Encode.{code_field, linked_field, rejected_field, value_field, body_field, encode_invoke, encode_result, encode_error, encode_reject}
 use Rattle.protocol.specs.Check.{usable, value_finding, value_well, within_limits}
 use Rattle.protocol.specs.Service.{about_in, about, reply, probed, acknowledged, keeps_answers}
 use Rattle.protocol.specs.Receive.{fault, invoke_checks, invoke_done, result_checks, error_checks, receive_apdu}
 use Rattle.protocol.specs.Perform.{later_checks, done, perform}
-use Rattle.capture.specs.Format.{count as capture_count, data_offset, kind_right, zero_right, size_fits, size_right, entry_right as capture_entry_right, headed, data_end, placed, end_to_end, valid as capture_valid}
+use Rattle.capture.specs.Format.{count as capture_count, data_offset, kind_right, zero_right, size_fits, size_right, entry_right as capture_entry_right, headed, data_end, placed, end_to_end, valid as valid_capture}
 use Rattle.capture.specs.Entry.{entry_at}
 use Rattle.player.specs.Play.{Verdict, agree, differs_at, refused_with, request_of, forget_of, same_octets, agreed, asked, played_as, play_one, play, replay}
 
@@ -191,5 +191,5 @@ fetch_verdicts = agree 7 ∷ agree 6 ∷ differs_at 3 ∷ differs_at 3 ∷ diffe
 
 -- the days; those with names; those with probe and acknowledge; one whose name the table lacks; and a wrong table with a malformed capture: 1 before 20
 pub replayed : (map (replay table) days ≡ verdicts) × (map (replay named_table) named_days ≡ agree 2 ∷ differs_at 0 ∷ []) × (map (replay fetch_table) fetch_days ≡ fetch_verdicts) × (replay table (laid (sent asks_named ∷ [])) ≡ differs_at 0) × (replay [] [] ≡ refused_with 1)
-unfolding keeping view_kept pack_kept pack_store sound_kept service_of service_at demands service_right partner_right idempotent_in idempotent_of room_needed only_frame inside_at id_at about_in about reply probed acknowledged keeps_answers invoke_done name_octets name_contents name_of same_name name_form name_right same_code code_right key_here key_in stored is_local code_stored edition key_at name_here name_at code_held idempotent_at edition_right filled same_names new_name stands_right key_right local_code name_code code_field pair_below pair_right result_right number_from digits continued one_of high_tag high_tag_octets identifier_octets length_of length_count length_octets header_with header_of shortest parts content_rule constructed closes found_behind behind_first elements_in filled_behind closed_behind made element_with element_of size_in size fills well_formed finding_with finding_in frame_with frame_of element_octets sign_of pattern integer_of fits_octets octet_count integer_octets every any seek count start entry_start octet_at code_at has_code operation_at error_at first_at second_at within_limit behind laid_out rule_right operation_right error_right allowed above rises fields_right entry_right part_right valid find operation_in operation_of error_in error_of joins joined parent_at has_child value_right fields_with fields_by fields_in number_of number_under is_code code_of coded_with coded_of linked_with linked_of invoke_with invoke_behind result_with result_behind error_behind most_problem is_problem id_allowed reject_with reject_behind reject_of behind_id with_id by_kind parse_at parse non_empty linked_field rejected_field value_field body_field encode_invoke encode_result encode_error encode_reject usable value_finding value_well within_limits fault invoke_checks result_checks error_checks receive_apdu later_checks done perform capture_count data_offset kind_right zero_right size_fits size_right capture_entry_right headed data_end placed end_to_end capture_valid entry_at request_of forget_of same_octets agreed asked played_as play_one play replay
+unfolding keeping view_kept pack_kept pack_store sound_kept service_of service_at demands service_right partner_right idempotent_of room_needed only_frame inside_at id_at about_in about reply probed acknowledged keeps_answers invoke_done name_contents zero_filled name_of same_name name_form name_right same_code code_right key_here key_in edition key_at name_here name_at code_held idempotent_at edition_right filled same_names new_name stands_right key_right local_code name_code code_field pair_below pair_right result_right number_from digits one_of high_tag high_tag_octets identifier_octets length_of length_count length_octets header_with header_of shortest parts content_rule constructed closes found_behind behind_first elements_in filled_behind closed_behind made element_with element_of size_in size fills well_formed finding_with finding_in frame_with frame_of element_octets sign_of pattern integer_of fits_octets octet_count integer_octets every any seek count start entry_start octet_at code_at has_code operation_at error_at first_at second_at within_limit behind laid_out rule_right operation_right error_right allowed above rises fields_right entry_right part_right valid find operation_of error_of joins joined parent_at has_child value_right fields_with fields_by fields_in number_under is_code code_of coded_with coded_of linked_with linked_of invoke_with invoke_behind result_with result_behind error_behind most_problem is_problem id_allowed reject_with reject_behind reject_of behind_id with_id by_kind parse_at parse non_empty linked_field rejected_field value_field body_field encode_invoke encode_result encode_error encode_reject usable value_finding value_well within_limits fault invoke_checks result_checks error_checks receive_apdu later_checks done perform capture_count data_offset kind_right zero_right size_fits size_right capture_entry_right headed data_end placed end_to_end valid_capture entry_at request_of forget_of same_octets agreed asked played_as play_one play replay high_tag_behind header_behind
 replayed = (refl, refl, refl, refl, refl)

@@ -1,9 +1,9 @@
 -- What receive writes: nothing, one APDU, or the Result of a probe and a kept answer, each taken out of the octets again.
+use Rattle.std.specs.Prelude.{Option}
 use Prim.Native.Nat.{ℕ, ◌+◌, ◌-◌, ◌<◌, ◌≤◌}
 use mathlib.Core.Path.{◌≡◌, refl, sym, ap, ◌∙◌}
 use mathlib.Core.Bool.{Bool, true, false, cond, false≢true}
 use mathlib.Core.List.{List, [], ◌∷◌, ◌++◌, append_assoc, append-nil}
-use mathlib.Core.Option.{Option}
 use native.Mathlib.Omega.{arith}
 use lib.Dec.{eqb}
 use lib.ListN.{length, get_or, take, drop, length-append, length-take, length-drop, get_or-append}
@@ -25,7 +25,6 @@ use Rattle.records.specs.Records.{member}
 use Rattle.optable.specs.declared.Service.{Service}
 use Rattle.optable.specs.declared.Service.TheVariants.{Probe, Acknowledge, Ordinary}
 use Rattle.optable.specs.Service.{probe_code, service_of}
-use Rattle.apdu.specs.declared.Number.{Number}
 use Rattle.apdu.specs.Field.{Part}
 use Rattle.apdu.specs.Parse.{Apdu, badly_structured, unrecognized, mistyped, parse, invoke as Invoke, result as Result, error as Error, reject as Reject}
 use Rattle.apdu.specs.Encode.{integer_field, code_field, body_field, rejected_field, encode_result, encode_reject}
@@ -47,7 +46,7 @@ short_octets : (t : ℕ) (c : List ℕ) → length c < 0x80 → element_octets t
 unfolding element_octets
 short_octets t c h = rw (length_short (length c) h) refl
 
-rejects : (i : Number) (kind p : ℕ) → Writes (encode_reject i kind p ∷ [])
+rejects : (i : Option ℕ) (kind p : ℕ) → Writes (encode_reject i kind p ∷ [])
 unfolding encode_reject says_finished
 rejects i kind p =
     let c = rejected_field i ++ element_octets kind (p ∷ []) in
@@ -138,7 +137,7 @@ refusal_writes : (r : Refusal) → Writes (written_by (refused r))
 refusal_writes (plain n) = nothing
 refusal_writes (rejecting i kind p) = rejects i kind p
 
-invoke_writes : (T : List ℕ) (s : Held) (i : ℕ) (l : Number) (c : Code) (v : Option Part) (q : Service) → Writes (written_by (invoke_done T s i l c v q))
+invoke_writes : (T : List ℕ) (s : Held) (i : ℕ) (l : Option ℕ) (c : Code) (v : Option Part) (q : Service) → Writes (written_by (invoke_done T s i l c v q))
 unfolding invoke_done
 invoke_writes T s i l c v Probe = probe_writes s i _
 invoke_writes T s i l c v Acknowledge = acknowledge_writes s i _

@@ -1,17 +1,16 @@
--- A capture played from the fresh state: document 02, requests One and Seven.
-use Rattle.std.specs.Prelude.{ℕ, zero, suc, ◌+◌, Bool, true, false, cond, ◌&&◌, List, [], ◌∷◌, eqb}
-use Rattle.std.proofs.Math.Option.{Option, some, none}
+-- A capture played from the fresh state (docs/RULES.md, 'A day's capture, replayed').
+use Rattle.std.specs.Prelude.{ℕ, zero, suc, ◌+◌, Bool, true, false, cond, ◌&&◌, List, [], ◌∷◌, eqb, Option, Some, None}
 use Rattle.records.specs.Held.{Held, fresh_held}
 use Rattle.records.specs.Limits.{octets}
 use Rattle.optable.specs.Validity.{valid}
-use Rattle.apdu.specs.declared.Number.TheVariants.{Of, Absent}
-use Rattle.apdu.specs.declared.CodeField.TheVariants.{Is, Other}
 use Rattle.apdu.specs.Field.{Part}
 use Rattle.apdu.specs.Parse.{body_value, Apdu, badly_structured, unrecognized, mistyped, parse, invoke as Invoke, result as Result, error as Error, reject as Reject}
 use Rattle.protocol.specs.Call.{own, peer, Call, receive, invoke, result, error, reject, forget, Answer, accepted, refused, written_by, end_to_end, held_after}
 use Rattle.protocol.specs.Perform.{perform}
-use Rattle.capture.specs.declared.Kind.{Kind}
-use Rattle.capture.specs.declared.Kind.TheVariants.{Received, Sent, Forget, Nothing}
+use Rattle.capture.specs.declared.kind.Kind.{Kind}
+use Rattle.capture.specs.declared.kind.Kind.TheVariants.{Received, Sent, Forget}
+use Rattle.capture.specs.declared.side.Side.{Side}
+use Rattle.capture.specs.declared.side.Side.TheVariants.{Own, Peer, Other}
 use Rattle.capture.specs.Format.{count, valid as valid_capture}
 use Rattle.capture.specs.Entry.{kind_at, octets_at, side_of, id_of}
 
@@ -19,36 +18,38 @@ use Rattle.capture.specs.Entry.{kind_at, octets_at, side_of, id_of}
 
 -- a request is given its value, empty for none
 abbrev pub value_octets : Option Part → List ℕ
-value_octets none = []
-value_octets (some v) = v.octets
+value_octets None = []
+value_octets (Some v) = v.octets
 
 -- the request that would write a sent APDU: a result's code is no argument of it, a Reject is a user's only with 81 and an id; what no request can write, as a code of over four octets or a name of over 16, fits no call
 unfoldable pub request_of : Apdu → Option Call
-request_of (badly_structured p) = none
-request_of unrecognized = none
-request_of (mistyped i) = none
-request_of (Invoke i l (Is c) v) = some (invoke i c l (value_octets v) octets)
-request_of (Invoke i l Other v) = none
-request_of (Result i b) = some (result i (value_octets (body_value b)) octets)
-request_of (Error i (Is e) v) = some (error i e (value_octets v) octets)
-request_of (Error i Other v) = none
-request_of (Reject Absent kind p) = none
-request_of (Reject (Of i) kind p) = cond (eqb kind 0x81) (some (reject i p octets)) none
+request_of (badly_structured p) = None
+request_of unrecognized = None
+request_of (mistyped i) = None
+request_of (Invoke i l (Some c) v) = Some (invoke i c l (value_octets v) octets)
+request_of (Invoke i l None v) = None
+request_of (Result i b) = Some (result i (value_octets (body_value b)) octets)
+request_of (Error i (Some e) v) = Some (error i e (value_octets v) octets)
+request_of (Error i None v) = None
+request_of (Reject None kind p) = None
+request_of (Reject (Some i) kind p) = cond (eqb kind 0x81) (Some (reject i p octets)) None
 
--- a forget names a side, 0 for own and 1 for peer, and an id; with any other side it fits no call
-abbrev pub forget_by : ℕ → ℕ → Option Call
-forget_by side i = cond (eqb side 0) (some (forget own i)) (cond (eqb side 1) (some (forget peer i)) none)
+-- a forget names a side and an id; with any other side it fits no call
+abbrev pub forget_by : Side → ℕ → Option Call
+forget_by Own i = Some (forget own i)
+forget_by Peer i = Some (forget peer i)
+forget_by (Other n) i = None
 
 unfoldable pub forget_of : List ℕ → Option Call
 forget_of x = forget_by (side_of x) (id_of x)
 
 -- ---- one entry played
 
-abbrev pub is_sent : Kind → Bool
-is_sent Received = false
-is_sent Sent = true
-is_sent Forget = false
-is_sent Nothing = false
+abbrev pub is_sent : Option Kind → Bool
+is_sent (Some Received) = false
+is_sent (Some Sent) = true
+is_sent (Some Forget) = false
+is_sent None = false
 
 unfoldable pub same_octets : List ℕ → List ℕ → Bool
 same_octets [] [] = true
@@ -72,18 +73,18 @@ agreed x (accepted i s l) = cond (same_octets (end_to_end l) x) (goes s []) diff
 
 -- what fits no call differs
 unfoldable pub asked : List ℕ → Held → List ℕ → Option Call → Step
-asked T s x none = differs
-asked T s x (some c) = agreed x (perform T s c)
+asked T s x None = differs
+asked T s x (Some c) = agreed x (perform T s c)
 
 -- a forget writes nothing
-unfoldable pub played_as : List ℕ → Held → Kind → List ℕ → Step
-played_as T s Received x = received s (perform T s (receive x octets))
-played_as T s Sent x = asked T s x (request_of (parse x))
-played_as T s Forget x = asked T s [] (forget_of x)
-played_as T s Nothing x = differs
+unfoldable pub played_as : List ℕ → Held → Option Kind → List ℕ → Step
+played_as T s (Some Received) x = received s (perform T s (receive x octets))
+played_as T s (Some Sent) x = asked T s x (request_of (parse x))
+played_as T s (Some Forget) x = asked T s [] (forget_of x)
+played_as T s None x = differs
 
 -- where APDUs are awaited, the next entry must have been sent and be the first of them; it is not played
-unfoldable pub play_one : List ℕ → Held → List (List ℕ) → Kind → List ℕ → Step
+unfoldable pub play_one : List ℕ → Held → List (List ℕ) → Option Kind → List ℕ → Step
 play_one T s [] kind x = played_as T s kind x
 play_one T s (w ∷ l) kind x = cond (is_sent kind && same_octets w x) (goes s l) differs
 

@@ -1,38 +1,46 @@
 -- What the code's answers say in the definitions' values, and what a turn of the walk promises.
-use Rattle.std.specs.Prelude.{ℕ, ◌+◌, ◌-◌, ◌≤◌, ◌≡◌, Bool, true, false, cond, ◌&&◌, List, [], ◌∷◌, eqb, length, get_or}
+use Rattle.std.specs.Prelude.{ℕ, ◌+◌, ◌-◌, ◌≤◌, ◌≡◌, Bool, true, false, cond, ◌&&◌, List, [], ◌∷◌, eqb, length, get_or, Result, Ok, Err, Option, Some, None}
 use Rattle.base.specs.Octets.{part}
 use Rattle.records.specs.declared.State.{State}
 use Rattle.records.specs.Held.{Held}
-use Rattle.protocol.specs.declared.Outcome.{Outcome}
-use Rattle.protocol.specs.declared.Outcome.TheVariants.{Accepted, Refused}
+use Rattle.protocol.specs.declared.Refusal.{Refusal}
 use Rattle.protocol.specs.declared.Requested.{Requested}
 use Rattle.capture.specs.Format.{count}
 use Rattle.capture.specs.Entry.{following}
 use Rattle.player.specs.declared.Report.{Report}
-use Rattle.player.specs.declared.Report.TheVariants.{InvalidTable, MalformedCapture, Agree, Differs}
-use Rattle.player.specs.declared.written.Place.{Place}
+use Rattle.player.specs.declared.Report.TheVariants.{Agree, Differs}
+use Rattle.player.specs.declared.Refusal.{Refusal as Unplayed}
+use Rattle.player.specs.declared.Refusal.TheVariants.{InvalidTable, MalformedCapture}
+use Rattle.player.specs.declared.written.Mismatch.{Mismatch}
 use Rattle.player.specs.declared.turn.Turn.{Turn}
 use Rattle.player.specs.Play.{same_octets, Step, differs, goes, Verdict, agree, differs_at, refused_with, play}
 
-unfoldable pub read_report : Report → Verdict
-read_report InvalidTable = refused_with 1
-read_report MalformedCapture = refused_with 20
-read_report (Agree n) = agree n
-read_report (Differs k) = differs_at k
+abbrev pub report_verdict : Report → Verdict
+report_verdict (Agree n) = agree n
+report_verdict (Differs k) = differs_at k
+
+abbrev pub refusal_number : Unplayed → ℕ
+refusal_number InvalidTable = 1
+refusal_number MalformedCapture = 20
+
+unfoldable pub read_report : Result Report Unplayed → Verdict
+read_report (Ok r) = report_verdict r
+read_report (Err why) = refused_with (refusal_number why)
 
 -- ---- what a request or forget leads to, its octets x held against those written, w
 
-unfoldable pub held_by : Outcome → Held → List ℕ → List ℕ → Step
-held_by Accepted s w x = cond (same_octets w x) (goes s []) differs
-held_by (Refused why) s w x = differs
+unfoldable pub held_by : Result (Unit {0}) Refusal → Held → List ℕ → List ℕ → Step
+held_by (Ok nothing) s w x = cond (same_octets w x) (goes s []) differs
+held_by (Err why) s w x = differs
 
 -- the state with the store beside it
 abbrev pub beside : State → List ℕ → Held
 beside s store = record { state = s; store = store }
 
--- w stands at the front of the output
-unfoldable pub read_requested : Requested → List ℕ → List ℕ → List ℕ → Step
-read_requested r store out x = held_by r.outcome (beside r.state store) (part out 0 r.written) x
+-- what fits no call differs; of a call what it wrote stands at the front of the output
+unfoldable pub read_requested : Option Requested → List ℕ → List ℕ → List ℕ → Step
+read_requested (Some r) store out x = held_by r.outcome (beside r.state store) (part out 0 r.written) x
+read_requested None store out x = differs
 
 -- ---- what receive writes
 
@@ -60,17 +68,22 @@ pub data Writes : List (List ℕ) → Type 0 where
 unfoldable pub onward : List ℕ → List ℕ → ℕ → Held → List (List ℕ) → Verdict
 onward T t k s l = play T t (count t - k) k s l
 
--- the verdict v is that the place differs, or what playing on from there gives, with what the end holds and the APDUs that are awaited; k is where the place may be at the earliest
-pub record Leads (T t : List ℕ) (k : ℕ) (v : Verdict) (s : Held) (l : List (List ℕ)) (p : Place) : Type 0 where
-  pub decides : v ≡ cond p.differs (differs_at p.at) (onward T t p.at s l)
-  pub within : k ≤ count t → p.at ≤ count t
-  pub forward : p.differs ≡ false → k ≤ p.at
+-- the verdict v is what playing on from place n gives, with what the end holds and the APDUs that are awaited, n being no earlier than k; or that the place differs
+unfoldable pub Leads : List ℕ → List ℕ → ℕ → Verdict → Held → List (List ℕ) → Result ℕ Mismatch → Type 0
+Leads T t k v s l (Ok n) = (v ≡ onward T t n s l) × (k ≤ n) × (k ≤ count t → n ≤ count t)
+Leads T t k v s l (Err m) = v ≡ differs_at m.0
 
 -- the place of the turn, where nothing is awaited
-abbrev pub Turned : List ℕ → List ℕ → ℕ → Verdict → List ℕ → Turn → Type 0
-Turned T t k v store r = Leads T t k v (beside r.state store) [] r.place
+unfoldable pub Turned : List ℕ → List ℕ → ℕ → Verdict → List ℕ → Result Turn Mismatch → Type 0
+Turned T t k v store (Ok q) = (v ≡ onward T t q.at (beside q.state store) []) × (k ≤ q.at) × (k ≤ count t → q.at ≤ count t)
+Turned T t k v store (Err m) = v ≡ differs_at m.0
 
 -- the turn that a step g at entry k of t leads to
-pub record Led (t : List ℕ) (k : ℕ) (store : List ℕ) (g : Step) (r : Turn) : Type 0 where
-  pub steps : g ≡ cond r.place.differs differs (goes (beside r.state store) [])
-  pub leads : r.place.at ≡ cond r.place.differs k (following t k)
+unfoldable pub Led : List ℕ → ℕ → List ℕ → Step → Result Turn Mismatch → Type 0
+Led t k store g (Ok q) = (g ≡ goes (beside q.state store) []) × (q.at ≡ following t k)
+Led t k store g (Err m) = (g ≡ differs) × (m.0 ≡ k)
+
+-- the verdict that the whole walk ends with
+abbrev pub walk_verdict : Result ℕ Mismatch → Verdict
+walk_verdict (Ok n) = agree n
+walk_verdict (Err m) = differs_at m.0

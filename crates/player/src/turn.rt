@@ -5,73 +5,70 @@ ghost use Rattle.records.specs.Limits.{octets};
 ghost use Rattle.protocol.specs.Call.{receive, written_by, held_after};
 ghost use Rattle.protocol.specs.Perform.{perform};
 ghost use Rattle.capture.specs.Format.{count};
-ghost use Rattle.capture.specs.Entry.{following};
+ghost use Rattle.capture.specs.Entry.{octets_at, following};
 ghost use Rattle.player.specs.Play.{play};
-ghost use Rattle.player.specs.Reading.{read_report, beside, read_requested, onward, Turned, Led};
+ghost use Rattle.player.specs.Reading.{walk_verdict, report_verdict, beside, read_requested, onward, Turned, Led};
 
 use crate::Report;
-use crate::asking::{agrees, asked, forgotten, unfit};
-use crate::written::{Place, answered};
+use crate::asking::{agrees, asked, forgotten};
+use crate::written::{Mismatch, answered};
 use base::octets::between;
+use capture::kind::Kind;
 use capture::reader::entry_numbered;
-use capture::{Kind, count, following};
+use capture::{count, following, octets_at};
 use protocol::Requested;
 use records::State;
 
-// A place with the state there.
+// The state behind an entry that was played, and the place to play on from.
 #[derive(Clone, Copy)]
 pub(crate) struct Turn {
     pub(crate) state: State,
-    pub(crate) place: Place,
+    pub(crate) at: usize,
 }
 
-#[tactic(auto, using(crate::proofs::PlayLaws::received_right))]
+#[tactic(auto, using(crate::proofs::PlayLaws::received_goes, crate::proofs::PlayLaws::received_differs))]
 fn received(
     table: &[u8],
     capture: &[u8],
     entry: usize,
-    apdu: &[u8],
     state: State,
     store: &mut [u8],
     out: &mut [u8],
-) -> Turn
+) -> Result<Turn, Mismatch>
     requires { length out.old ≡ octets }
     ensures { Turned table.now capture.now (following capture.now entry)
         (onward table.now capture.now (following capture.now entry)
-        (held_after (beside state store.old) (perform table.now (beside state store.old) (receive apdu.now octets)))
-        (written_by (perform table.now (beside state store.old) (receive apdu.now octets))))
+        (held_after (beside state store.old) (perform table.now (beside state store.old) (receive (octets_at capture.now entry) octets)))
+        (written_by (perform table.now (beside state store.old) (receive (octets_at capture.now entry) octets))))
         store.new result }
 {
-    let r = rose::receive(state, store, table, apdu, out);
-    let next = r.state;
+    let r = rose::receive(state, store, table, octets_at(capture, entry), out);
     let written = between(out, 0, r.written);
-    let place = answered(capture, following(capture, entry), written);
-    Turn { state: next, place }
+    let at = answered(capture, following(capture, entry), written)?;
+    Ok(Turn { state: r.state, at })
 }
 
-// Behind an entry whose call was accepted and wrote its octets, or at one that differs.
-#[tactic(auto, using(crate::proofs::PlayLaws::led_behind, crate::proofs::PlayLaws::led_at))]
-fn turned(capture: &[u8], entry: usize, r: Requested, out: &[u8], octets: &[u8]) -> Turn
-    ensures { (store : List ℕ) → Led capture.now entry store (read_requested r store out.now octets.now) result }
+// Behind an entry whose call was accepted and wrote its octets; what fits no call differs.
+#[tactic(auto, using(crate::proofs::PlayLaws::led_behind, crate::proofs::PlayLaws::led_at, crate::proofs::PlayLaws::led_nowhere))]
+fn turned(
+    capture: &[u8],
+    entry: usize,
+    requested: Option<Requested>,
+    out: &[u8],
+    octets: &[u8],
+) -> Result<Turn, Mismatch>
+    ensures { (store : List ℕ) → Led capture.now entry store (read_requested requested store out.now octets.now) result }
 {
-    let state = r.state;
-    let outcome = r.outcome;
-    if agrees(outcome, r.written, out, octets) {
-        return Turn {
-            state,
-            place: Place {
-                at: following(capture, entry),
-                differs: false,
-            },
-        };
+    let Some(r) = requested else {
+        return Err(Mismatch(entry));
+    };
+    if !agrees(r.outcome, r.written, out, octets) {
+        return Err(Mismatch(entry));
     }
-    Turn {
-        state,
-        place: Place {
-            at: entry,
-            differs: true,
-        },
-    }
+    Ok(Turn {
+        state: r.state,
+        at: following(capture, entry),
+    })
 }
 
 #[tactic(auto, using(crate::proofs::PlayLaws::received_turns, crate::proofs::PlayLaws::sent_turns, crate::proofs::PlayLaws::forget_turns, crate::proofs::PlayLaws::nothing_turns))]
@@ -82,7 +79,7 @@ fn played_entry(
     state: State,
     store: &mut [u8],
     out: &mut [u8],
-) -> Turn
+) -> Result<Turn, Mismatch>
     requires there { entry < count capture.now }
     requires room { length out.old ≡ octets }
     ensures { Turned table.now capture.now (entry + 1)
@@ -90,55 +87,50 @@ fn played_entry(
 {
     let e = entry_numbered(capture, entry);
     let octets = between(capture, e.at, e.end);
-    let kind = e.kind;
+    let Some(kind) = e.kind else {
+        return Err(Mismatch(entry));
+    };
     match kind {
-        Kind::Received => received(table, capture, entry, octets, state, store, out),
-        Kind::Sent => turned(
-            capture,
-            entry,
-            asked(table, state, store, octets, out),
-            out,
-            octets,
-        ),
-        Kind::Forget => turned(
-            capture,
-            entry,
-            forgotten(table, state, store, octets),
-            b"",
-            b"",
-        ),
-        Kind::Nothing => turned(capture, entry, unfit(state), b"", b""),
+        Kind::Received => received(table, capture, entry, state, store, out),
+        Kind::Sent => {
+            let r = asked(table, state, store, octets, out);
+            turned(capture, entry, r, out, octets)
+        }
+        Kind::Forget => {
+            let r = forgotten(table, state, store, octets);
+            turned(capture, entry, r, &[], &[])
+        }
     }
 }
 
-#[tactic(auto, using(crate::proofs::PlayLaws::onward_start, crate::proofs::PlayLaws::turn_differs, crate::proofs::PlayLaws::turn_goes, crate::proofs::PlayLaws::walk_ends))]
-fn walked(table: &[u8], capture: &[u8], store: &mut [u8], out: &mut [u8]) -> Report
+// The entries played one after the other: how many there are, or the first place that differs. No range counts them, since a turn passes an entry and as many
+// behind it as receive wrote.
+#[tactic(auto, using(crate::proofs::PlayLaws::onward_start, crate::proofs::PlayLaws::turn_differs, crate::proofs::PlayLaws::turn_goes, crate::proofs::PlayLaws::turn_forward, crate::proofs::PlayLaws::turn_within, crate::proofs::PlayLaws::walk_ends))]
+fn walked(table: &[u8], capture: &[u8], store: &mut [u8], out: &mut [u8]) -> Result<usize, Mismatch>
     requires store { store.old ≡ fresh_held.store }
     requires room { length out.old ≡ octets }
-    ensures { read_report result ≡ play table.now capture.now (count capture.now) 0 fresh_held [] }
+    ensures { walk_verdict result ≡ play table.now capture.now (count capture.now) 0 fresh_held [] }
 {
     let n = count(capture);
     let mut state = State::fresh();
     let mut at: usize = 0;
     while at < n {
-        let turn = played_entry(table, capture, at, state, store, out);
-        let next = turn.state;
-        state = next;
-        let place = turn.place;
-        if place.differs {
-            return Report::Differs(place.at);
-        }
-        at = place.at;
+        let turn = played_entry(table, capture, at, state, store, out)?;
+        state = turn.state;
+        at = turn.at;
     }
-    Report::Agree(n)
+    Ok(n)
 }
 
 // The entries played with one store of kept answers and one output, which has room for any APDU.
-#[tactic(auto, unfolding(records::specs::Kept::pack_store))]
+#[tactic(auto, using(crate::proofs::PlayLaws::agrees_by, crate::proofs::PlayLaws::differs_by), unfolding(records::specs::Kept::pack_store))]
 pub(crate) fn played(table: &[u8], capture: &[u8]) -> Report
-    ensures { read_report result ≡ play table.now capture.now (count capture.now) 0 fresh_held [] }
+    ensures { report_verdict result ≡ play table.now capture.now (count capture.now) 0 fresh_held [] }
 {
     let mut store = [0u8; State::STORE_OCTETS];
     let mut out = [0u8; State::OCTETS];
-    walked(table, capture, &mut store, &mut out)
+    match walked(table, capture, &mut store, &mut out) {
+        Ok(entries) => Report::Agree(entries),
+        Err(Mismatch(place)) => Report::Differs(place),
+    }
 }

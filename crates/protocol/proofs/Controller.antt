@@ -1,10 +1,10 @@
 -- Each call at the controller keeps what the book says.
+use Rattle.std.specs.Prelude.{Some, None}
 use Prim.Native.Nat.{ℕ}
 use mathlib.Core.Path.{◌≡◌, refl, sym, subst}
 use mathlib.Core.Bool.{Bool, true, false, cond}
 use mathlib.Core.List.{List, [], ◌∷◌, ◌++◌, Memᴰ as In}
 use mathlib.Core.Logic.{inl, inr}
-use mathlib.Core.Option.{some, none}
 use native.Mathlib.Omega.{arith}
 use lib.Dec.{eqb}
 use Rattle.records.specs.declared.Record.{Record}
@@ -14,7 +14,6 @@ use Rattle.records.specs.Held.{Held, kept_answers, keep_answer}
 use Rattle.optable.specs.Service.{service_of}
 use Rattle.records.proofs.Soundness.{view_retired}
 use Rattle.optable.specs.Validity.{valid}
-use Rattle.apdu.specs.declared.Number.TheVariants.{Of, Absent}
 use Rattle.apdu.specs.Parse.{Apdu, badly_structured, unrecognized, mistyped, parse, invoke as Invoke, result as Result, error as Error, reject as Reject}
 use Rattle.base.specs.Lists.{non_empty}
 use Rattle.apdu.specs.Encode.{encode_invoke, encode_error, encode_reject}
@@ -27,7 +26,7 @@ use Rattle.protocol.specs.Receive.{field_code, fault, invoke_checks, result_chec
 use Rattle.protocol.specs.Service.{keeps_answers}
 use Rattle.protocol.specs.Perform.{checks, done, result_apdu, without_peer}
 use Rattle.protocol.specs.Book.{last_code, kiosk, controller, at, a_result, an_error, Given, wired, Answered, World, wiring, after}
-use Rattle.protocol.specs.Demand3.{InRange, Carried}
+use Rattle.protocol.specs.ShownWasGiven.{InRange, Carried}
 use Rattle.protocol.proofs.Checks.{Pass, settle}
 use Rattle.protocol.proofs.Facts.{result_facts, error_facts, erred_right}
 use Rattle.protocol.proofs.Ids.{in_code, in_last, in_member, one_code}
@@ -48,8 +47,8 @@ module _ (O N : List ℕ) (valid-N : valid N ≡ true) where
   agrees_in : (w : World) (x : List ℕ) (room : ℕ) (p : Apdu) → parse x ≡ p → In (wired kiosk x) w.book.wire → Steady N w.controller → Agrees N w
       → Agrees N (after O w (at controller (receive x room)) (receive_apdu N w.controller x p))
   unfolding receive_apdu
-  agrees_in w x room (badly_structured p) e m s k = agrees_refused O N w controller (receive x room) (fault x 2 Absent) k
-  agrees_in w x room unrecognized e m s k = agrees_refused O N w controller (receive x room) (fault x 0 Absent) k
+  agrees_in w x room (badly_structured p) e m s k = agrees_refused O N w controller (receive x room) (fault x 2 None) k
+  agrees_in w x room unrecognized e m s k = agrees_refused O N w controller (receive x room) (fault x 0 None) k
   agrees_in w x room (mistyped i) e m s k = agrees_refused O N w controller (receive x room) (fault x 1 i) k
   agrees_in w x room (Invoke i l c v) e m s k =
       settled w x room k (invoke_checks N w.controller i l c v) _ (λ p. agrees_invoked O N valid-N w x room i l c v e m k s (service_of (field_code c)) refl p)
@@ -57,9 +56,9 @@ module _ (O N : List ℕ) (valid-N : valid N ≡ true) where
       settled w x room k (result_checks N w.controller i b) _ (λ _. agrees_accepted O N w x room _ e k (without_own w.controller i) k.known k.told k.stored)
   agrees_in w x room (Error i d v) e m s k =
       settled w x room k (error_checks N w.controller i d v) _ (λ _. agrees_accepted O N w x room _ e k (without_own w.controller i) k.known k.told k.stored)
-  agrees_in w x room (Reject Absent kind p) e m s k = agrees_accepted O N w x room _ e k w.controller k.known k.told k.stored
-  agrees_in w x room (Reject (Of i) kind p) e m s k =
-      agrees_accepted O N w x room _ e k (retired_by w.controller (Of i) kind) (peers (eqb kind 0x81)) k.told (keeps (eqb kind 0x81))
+  agrees_in w x room (Reject None kind p) e m s k = agrees_accepted O N w x room _ e k w.controller k.known k.told k.stored
+  agrees_in w x room (Reject (Some i) kind p) e m s k =
+      agrees_accepted O N w x room _ e k (retired_by w.controller (Some i) kind) (peers (eqb kind 0x81)) k.told (keeps (eqb kind 0x81))
     where
       peers : (b : Bool) → Known (peer_records (cond b (without_own w.controller i) w.controller)) w.book.heard w.book.asked
       peers true = k.known
@@ -138,7 +137,7 @@ module _ (O N : List ℕ) (valid-N : valid N ≡ true) where
       let has = f.live in
       let lim = f.sendable.within in
       let same = same_last w i k has in
-      agrees_given w i k has s (keeps_answers N (code_in (peer_records w.controller) i)) (record { id = i; operation = last_code i w.book.heard; kind = a_result; error = none; value = non_empty v }) (result_apdu w.controller i v)
+      agrees_given w i k has s (keeps_answers N (code_in (peer_records w.controller) i)) (record { id = i; operation = last_code i w.book.heard; kind = a_result; error = None; value = non_empty v }) (result_apdu w.controller i v)
       (record {
         size = limits_size in_body (non_empty v) (result_apdu w.controller i v) lim;
         from = last_heard w i k has;
@@ -157,7 +156,7 @@ module _ (O N : List ℕ) (valid-N : valid N ≡ true) where
       let has = f.live in
       let lim = f.sendable.within in
       let same = same_last w i k has in
-      agrees_given w i k has s (keeps_answers N (code_in (peer_records w.controller) i)) (record { id = i; operation = last_code i w.book.heard; kind = an_error; error = some e; value = non_empty v }) (encode_error i e (non_empty v))
+      agrees_given w i k has s (keeps_answers N (code_in (peer_records w.controller) i)) (record { id = i; operation = last_code i w.book.heard; kind = an_error; error = Some e; value = non_empty v }) (encode_error i e (non_empty v))
       (record {
         size = limits_size in_apdu (non_empty v) (encode_error i e (non_empty v)) lim;
         from = last_heard w i k has;
@@ -173,7 +172,7 @@ module _ (O N : List ℕ) (valid-N : valid N ≡ true) where
         });
       })
   agrees_controller w (reject i q room) h m s k p =
-      let e = first_reject (Of i) 0x81 q in
-      agrees_other w _ (encode_reject (Of i) 0x81 q) (omega arith, omega arith) (peer_retired w i k) refl k
+      let e = first_reject (Some i) 0x81 q in
+      agrees_other w _ (encode_reject (Some i) 0x81 q) (omega arith, omega arith) (peer_retired w i k) refl k
   agrees_controller w (forget own i) h m s k p = record { ours = k.ours; spoken = k.spoken; known = k.known; sent = k.sent; told = k.told; stored = k.stored; quiet = k.quiet }
   agrees_controller w (forget peer i) h m s k p = record { ours = k.ours; spoken = k.spoken; known = peer_retired w i k; sent = k.sent; told = k.told; stored = k.stored; quiet = k.quiet }

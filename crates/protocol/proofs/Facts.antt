@@ -1,9 +1,9 @@
 -- What the passed checks of a call give, each fact by its name; a check is found by its number, so that no law counts places in a list.
+use Rattle.std.specs.Prelude.{Option, Some, None}
 use Prim.Native.Nat.{ℕ}
 use mathlib.Core.Path.{◌≡◌}
 use mathlib.Core.Bool.{true, false, not, ◌&&◌, false≢true}
 use mathlib.Core.List.{List}
-use mathlib.Core.Option.{Option}
 use borrow.Author.Tests.{not-false}
 use Rattle.base.proofs.Tests.{and_left}
 use Rattle.base.specs.Lists.{non_empty}
@@ -19,10 +19,6 @@ use Rattle.optable.specs.Validity.{valid}
 use Rattle.optable.specs.Lookup.{operation_of, listed, result_of, error_of, known, parameter_of, paired, child_of}
 use Rattle.optable.proofs.NameLaws.{listed_code_right, known_code_right}
 use Rattle.optable.specs.Value.{value_right}
-use Rattle.apdu.specs.declared.Number.{Number}
-use Rattle.apdu.specs.declared.Number.TheVariants.{Of}
-use Rattle.apdu.specs.declared.CodeField.{CodeField}
-use Rattle.apdu.specs.declared.CodeField.TheVariants.{Is, Other}
 use Rattle.apdu.specs.Field.{Part}
 use Rattle.apdu.specs.Parse.{CodedValue}
 use Rattle.apdu.specs.Encode.{encode_invoke, encode_error, encode_reject}
@@ -39,7 +35,7 @@ pub record Sendable (down : ℕ) (v x : List ℕ) (room : ℕ) : Type 0 where
   pub within : within_limits down (non_empty v) x ≡ true
   pub fits : too_short room x ≡ false
 
-pub record InvokeFacts (T : List ℕ) (s : Held) (i : ℕ) (c : Code) (l : Number) (v : List ℕ) (room : ℕ) : Type 0 where
+pub record InvokeFacts (T : List ℕ) (s : Held) (i : ℕ) (c : Code) (l : Option ℕ) (v : List ℕ) (room : ℕ) : Type 0 where
   pub known : listed (operation_of T c) ≡ true
   pub new : member i (own_records s) ≡ false
   pub free : among i (resting_ids s) ≡ false
@@ -56,7 +52,7 @@ pub record AnswerFacts (T : List ℕ) (s : Held) (i a b : ℕ) (rule : Rule) (do
   pub sendable : Sendable down v x room
 
 module _ (T : List ℕ) (s : Held) (i : ℕ) (v : List ℕ) (room : ℕ) where
-  pub invoke_facts : (c : Code) (l : Number) → Pass (checks T s (invoke i c l v room)) → InvokeFacts T s i c l v room
+  pub invoke_facts : (c : Code) (l : Option ℕ) → Pass (checks T s (invoke i c l v room)) → InvokeFacts T s i c l v room
   unfolding later_checks
   invoke_facts c l p =
       let by = passed (checks T s (invoke i c l v room)) p in
@@ -92,7 +88,7 @@ module _ (T : List ℕ) (s : Held) (i : ℕ) (v : List ℕ) (room : ℕ) where
         sendable = record { within = not-false _ (by 15); fits = by 2 };
       }
 
-pub reject_fits : (T : List ℕ) (s : Held) (i p room : ℕ) → Pass (checks T s (reject i p room)) → too_short room (encode_reject (Of i) 0x81 p) ≡ false
+pub reject_fits : (T : List ℕ) (s : Held) (i p room : ℕ) → Pass (checks T s (reject i p room)) → too_short room (encode_reject (Some i) 0x81 p) ≡ false
 unfolding later_checks
 reject_fits T s i p room h = passed (checks T s (reject i p room)) h 2
 
@@ -106,7 +102,7 @@ unfolding usable
 table_valid T s c p = and_left (valid T) _ (not-false _ (passed (checks T s c) p 1))
 
 -- an operation that was invoked, and an error that was given, have codes of their form
-pub invoked_right : (T : List ℕ) (s : Held) (i : ℕ) (c : Code) (l : Number) (v : List ℕ) (room : ℕ) → Pass (checks T s (invoke i c l v room)) → code_right c ≡ true
+pub invoked_right : (T : List ℕ) (s : Held) (i : ℕ) (c : Code) (l : Option ℕ) (v : List ℕ) (room : ℕ) → Pass (checks T s (invoke i c l v room)) → code_right c ≡ true
 unfolding later_checks
 invoked_right T s i c l v room p =
     listed_code_right T (table_valid T s (invoke i c l v room) p) c (not-false _ (passed (checks T s (invoke i c l v room)) p 4))
@@ -118,32 +114,32 @@ erred_right T s i e v room p =
 
 -- ---- received APDUs
 
-pub record ArrivedInvoke (T : List ℕ) (s : Held) (i : ℕ) (c : CodeField) : Type 0 where
+pub record ArrivedInvoke (T : List ℕ) (s : Held) (i : ℕ) (c : Option Code) : Type 0 where
   pub new : member i (peer_records s) ≡ false
   pub known : is_operation T c ≡ true
   -- resourceLimitation is asked of every operation but probe and acknowledge
   pub vacant : service_of (field_code c) ≡ Ordinary → (not (is_silent T (field_code c)) && is_full (peer_records s)) ≡ false
 
-pub arrived_invoke : (T : List ℕ) (s : Held) (i : ℕ) (l : Number) (c : CodeField) (v : Option Part) → Pass (invoke_checks T s i l c v) → ArrivedInvoke T s i c
+pub arrived_invoke : (T : List ℕ) (s : Held) (i : ℕ) (l : Option ℕ) (c : Option Code) (v : Option Part) → Pass (invoke_checks T s i l c v) → ArrivedInvoke T s i c
 unfolding invoke_checks
 arrived_invoke T s i l c v p =
     let by = passed (invoke_checks T s i l c v) p in
     record { new = by 0; known = not-false _ (by 1); vacant = λ q. rw q at (by 3) }
 
 -- the operation of an accepted Invoke is in the table
-pub operation_listed : (T : List ℕ) (c : CodeField) → is_operation T c ≡ true → listed (operation_of T (field_code c)) ≡ true
-operation_listed T (Is c) h = h
-operation_listed T Other h = absurd (false≢true h)
+pub operation_listed : (T : List ℕ) (c : Option Code) → is_operation T c ≡ true → listed (operation_of T (field_code c)) ≡ true
+operation_listed T (Some c) h = h
+operation_listed T None h = absurd (false≢true h)
 
 pub arrived_result : (T : List ℕ) (s : Held) (i : ℕ) (b : Option CodedValue) → Pass (result_checks T s i b) → member i (own_records s) ≡ true
 unfolding result_checks
 arrived_result T s i b p = not-false _ (passed (result_checks T s i b) p 0)
 
-pub record ArrivedError (T : List ℕ) (s : Held) (i : ℕ) (e : CodeField) : Type 0 where
+pub record ArrivedError (T : List ℕ) (s : Held) (i : ℕ) (e : Option Code) : Type 0 where
   pub live : member i (own_records s) ≡ true
   pub listed : paired T (code_in (own_records s) i) (field_code e) ≡ true
 
-pub arrived_error : (T : List ℕ) (s : Held) (i : ℕ) (e : CodeField) (v : Option Part) → Pass (error_checks T s i e v) → ArrivedError T s i e
+pub arrived_error : (T : List ℕ) (s : Held) (i : ℕ) (e : Option Code) (v : Option Part) → Pass (error_checks T s i e v) → ArrivedError T s i e
 unfolding error_checks
 arrived_error T s i e v p =
     let by = passed (error_checks T s i e v) p in

@@ -1,10 +1,9 @@
 -- Lost answers, fetched by a probe: runs, and what becomes of them. Computed.antt computes them.
+use Rattle.std.specs.Prelude.{Some, None}
 use Prim.Native.Nat.{ℕ}
 use mathlib.Core.List.{List, [], ◌∷◌}
-use mathlib.Core.Option.{some, none}
 use Rattle.codes.specs.declared.Code.{Code}
 use Rattle.optable.specs.Service.{probe_code, acknowledge_code}
-use Rattle.apdu.specs.declared.Number.TheVariants.{Of, Absent}
 use Rattle.apdu.specs.Encode.{encode_invoke, encode_result}
 use Rattle.protocol.specs.Call.{receive, invoke, result, plain, rejecting}
 use Rattle.protocol.specs.Service.{enumerated}
@@ -15,13 +14,13 @@ use Rattle.protocol.proofs.Witness.{seven, three, zero02, give_result, Run, Tell
 -- ---- calls
 
 abbrev asks : ℕ → Code → List ℕ → Event
-asks i c v = at kiosk (invoke i c Absent v 100)
+asks i c v = at kiosk (invoke i c None v 100)
 
 abbrev hears : ℕ → Code → List ℕ → Event
-hears i c v = at controller (receive (encode_invoke i Absent c (some v)) 528)
+hears i c v = at controller (receive (encode_invoke i None c (Some v)) 528)
 
 abbrev gets : ℕ → Code → List ℕ → Event
-gets i c v = at kiosk (receive (encode_result i c (some v)) 528)
+gets i c v = at kiosk (receive (encode_result i c (Some v)) 528)
 
 -- 30 holding A0 holding the id 1
 abbrev about_one : List ℕ
@@ -62,7 +61,7 @@ fetching =
 
 -- eleven octets lent where the table lists probe: a live id's answer is refused
 abbrev cramped : List Event
-cramped = asks 1 seven three ∷ hears 1 seven three ∷ give_result 1 zero02 ∷ at kiosk (receive (encode_result 1 seven (some zero02)) 11) ∷ []
+cramped = asks 1 seven three ∷ hears 1 seven three ∷ give_result 1 zero02 ∷ at kiosk (receive (encode_result 1 seven (Some zero02)) 11) ∷ []
 
 -- the Invoke arrives again behind its answer: it is accepted, the kept answer goes, and a probe finds it running
 abbrev repeated : List Event
@@ -82,13 +81,13 @@ reprobed =
 -- the kiosk is probed: it answers in the same way, and shows nothing
 abbrev asked_back : List Event
 asked_back =
-    at controller (invoke 1 seven Absent three 100)
-    ∷ at kiosk (receive (encode_invoke 1 Absent seven (some three)) 528)
+    at controller (invoke 1 seven None three 100)
+    ∷ at kiosk (receive (encode_invoke 1 None seven (Some three)) 528)
     ∷ at kiosk (result 1 zero02 100)
-    ∷ at controller (invoke 2 probe_code Absent about_one 100)
-    ∷ at kiosk (receive (encode_invoke 2 Absent probe_code (some about_one)) 528)
-    ∷ at controller (receive (encode_result 2 probe_code (some (enumerated 1))) 528)
-    ∷ at controller (receive (encode_result 1 seven (some zero02)) 528)
+    ∷ at controller (invoke 2 probe_code None about_one 100)
+    ∷ at kiosk (receive (encode_invoke 2 None probe_code (Some about_one)) 528)
+    ∷ at controller (receive (encode_result 2 probe_code (Some (enumerated 1))) 528)
+    ∷ at controller (receive (encode_result 1 seven (Some zero02)) 528)
     ∷ []
 
 -- a table with probe and no acknowledge
@@ -109,22 +108,22 @@ abbrev pub fetched : List Tells
 fetched =
     record {
       refusals =
-          none ∷ none
-          ∷ none ∷ none ∷ none
-          ∷ none
-          ∷ some (plain 6)
-          ∷ none ∷ none ∷ none ∷ none ∷ some (rejecting (Of 1) 0x82 0)
-          ∷ none ∷ none ∷ none
-          ∷ none ∷ none ∷ none
-          ∷ none ∷ none ∷ none
-          ∷ none ∷ some (rejecting (Of 8) 0x81 2)
-          ∷ none ∷ some (rejecting (Of 9) 0x81 2)
+          None ∷ None
+          ∷ None ∷ None ∷ None
+          ∷ None
+          ∷ Some (plain 6)
+          ∷ None ∷ None ∷ None ∷ None ∷ Some (rejecting (Some 1) 0x82 0)
+          ∷ None ∷ None ∷ None
+          ∷ None ∷ None ∷ None
+          ∷ None ∷ None ∷ None
+          ∷ None ∷ Some (rejecting (Some 8) 0x81 2)
+          ∷ None ∷ Some (rejecting (Some 9) 0x81 2)
           ∷ [];
       shown = 2 ∷ 4 ∷ 1 ∷ 5 ∷ 6 ∷ 7 ∷ [];
     }
-    ∷ record { refusals = none ∷ none ∷ none ∷ some (plain 2) ∷ []; shown = [] }
-    ∷ record { refusals = none ∷ none ∷ none ∷ none ∷ none ∷ none ∷ none ∷ []; shown = 2 ∷ [] }
-    ∷ record { refusals = none ∷ none ∷ none ∷ none ∷ none ∷ none ∷ none ∷ []; shown = 2 ∷ 2 ∷ [] }
-    ∷ record { refusals = none ∷ none ∷ none ∷ none ∷ none ∷ none ∷ none ∷ []; shown = [] }
-    ∷ record { refusals = some (plain 1) ∷ []; shown = [] }
+    ∷ record { refusals = None ∷ None ∷ None ∷ Some (plain 2) ∷ []; shown = [] }
+    ∷ record { refusals = None ∷ None ∷ None ∷ None ∷ None ∷ None ∷ None ∷ []; shown = 2 ∷ [] }
+    ∷ record { refusals = None ∷ None ∷ None ∷ None ∷ None ∷ None ∷ None ∷ []; shown = 2 ∷ 2 ∷ [] }
+    ∷ record { refusals = None ∷ None ∷ None ∷ None ∷ None ∷ None ∷ None ∷ []; shown = [] }
+    ∷ record { refusals = Some (plain 1) ∷ []; shown = [] }
     ∷ []

@@ -1,9 +1,9 @@
 -- One end, call after call from fresh: each call is made on a sound state that its table covers, so 19 and 1 are never given.
+use Rattle.std.specs.Prelude.{Option, None}
 use Prim.Native.Nat.{ℕ}
 use mathlib.Core.Path.{◌≡◌, refl}
 use mathlib.Core.Bool.{true, false, ◌&&◌}
 use mathlib.Core.List.{List, [], ◌∷◌}
-use mathlib.Core.Option.{Option}
 use lib.ListN.{get_or}
 use lib.Dec.{eqb}
 use Rattle.base.proofs.Tests.{cond_elim, and_left, and_right}
@@ -14,8 +14,6 @@ use Rattle.optable.specs.Validity.{valid}
 use Rattle.optable.specs.declared.Service.{Service}
 use Rattle.optable.specs.declared.Service.TheVariants.{Probe, Acknowledge, Ordinary}
 use Rattle.optable.specs.Service.{service_of}
-use Rattle.apdu.specs.declared.Number.{Number}
-use Rattle.apdu.specs.declared.Number.TheVariants.{Absent}
 use Rattle.apdu.specs.Field.{Part}
 use Rattle.apdu.specs.Parse.{Apdu, badly_structured, unrecognized, mistyped, parse, invoke as Invoke, result as Result, error as Error, reject as Reject}
 use Rattle.protocol.specs.Call.{own, peer, Call, receive, invoke, result, error, reject, forget, Refusal, plain, rejecting, refused, held_after}
@@ -39,11 +37,11 @@ module _ (T : List ℕ) where
   early_avoided s (forget peer i) = refl
 
   module _ (n : ℕ) (n17 : eqb 17 n ≡ false) (n18 : eqb 18 n ≡ false) where
-    fault_gives : (x : List ℕ) (p : ℕ) (i : Number) → gives n (refused (fault x p i)) ≡ false
+    fault_gives : (x : List ℕ) (p : ℕ) (i : Option ℕ) → gives n (refused (fault x p i)) ≡ false
     unfolding fault
     fault_gives x p i = cond_elim (λ (r : Refusal). gives n (refused r) ≡ false) (eqb (get_or x 0 0) 0xA4) (plain 17) (rejecting i 0x80 p) (λ _. n17) (λ _. n18)
 
-    invoked_gives : (s : Held) (i : ℕ) (l : Number) (c : Code) (v : Option Part) (q : Service) → gives n (invoke_done T s i l c v q) ≡ false
+    invoked_gives : (s : Held) (i : ℕ) (l : Option ℕ) (c : Code) (v : Option Part) (q : Service) → gives n (invoke_done T s i l c v q) ≡ false
     unfolding invoke_done
     invoked_gives s i l c v Probe = refl
     invoked_gives s i l c v Acknowledge = refl
@@ -51,8 +49,8 @@ module _ (T : List ℕ) where
 
     received_gives : (s : Held) (x : List ℕ) (p : Apdu) → gives n (receive_apdu T s x p) ≡ false
     unfolding receive_apdu invoke_checks result_checks error_checks
-    received_gives s x (badly_structured p) = fault_gives x 2 Absent
-    received_gives s x unrecognized = fault_gives x 0 Absent
+    received_gives s x (badly_structured p) = fault_gives x 2 None
+    received_gives s x unrecognized = fault_gives x 0 None
     received_gives s x (mistyped i) = fault_gives x 1 i
     received_gives s x (Invoke i l c v) = never_given n (invoke_checks T s i l c v) _ (rw n18) (invoked_gives s i l (field_code c) v (service_of (field_code c)))
     received_gives s x (Result i b) = never_given n (result_checks T s i b) _ (rw n18) refl

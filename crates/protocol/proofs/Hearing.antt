@@ -1,4 +1,5 @@
 -- An Invoke that the controller accepts keeps what the book says: what is then heard, and what receive answers itself.
+use Rattle.std.specs.Prelude.{Option, Some, None}
 use Prim.Native.Nat.{ℕ}
 use mathlib.Core.Path.{◌≡◌, refl, sym, subst, ap, ◌∙◌}
 use mathlib.Core.Bool.{true, cond}
@@ -9,7 +10,6 @@ use mathlib.Core.List.Memᴰ.{eq_of_singleton as in_one}
 use mathlib.Core.List.Memᴰ.{head as here}
 use mathlib.Core.List.{List, [], ◌∷◌, ◌++◌, Memᴰ as In}
 use mathlib.Core.Logic.{◌⊎◌, inl, inr}
-use mathlib.Core.Option.{Option, some, none}
 use Rattle.records.specs.declared.Record.{Record}
 use Rattle.base.proofs.Tests.{cond_elim}
 use Rattle.codes.specs.declared.Code.{Code}
@@ -26,8 +26,6 @@ use Rattle.optable.specs.Value.{value_right}
 use Rattle.optable.proofs.ServiceLaws.{code_of_service, service_code}
 use Rattle.optable.specs.Validity.{valid}
 use Rattle.optable.proofs.NameLaws.{listed_code_right}
-use Rattle.apdu.specs.declared.Number.{Number}
-use Rattle.apdu.specs.declared.CodeField.{CodeField}
 use Rattle.apdu.specs.Field.{Part, octets_of}
 use Rattle.apdu.specs.Parse.{Apdu, parse, invoke as Invoke, result as Result}
 use Rattle.apdu.proofs.FieldRoundTrip.{last_part}
@@ -71,12 +69,12 @@ module _ (O N : List ℕ) where
   -- an accepted receive that writes nothing: only the peer records, heard and the kept answers may change
   module _ (w : World) (x : List ℕ) (room : ℕ) (p : Apdu) (e : parse x ≡ p) (k : Agrees N w) where
     pub agrees_accepted : (s : Held) → Known (peer_records s) (hearing_of p w.book.heard) w.book.asked
-        → ((f : Answered) → In f w.book.given → Told N (hearing_of p w.book.heard) f) → Stored (kept_answers s) w.book.given → Agrees N (after O w (at controller (receive x room)) (accepted none s []))
+        → ((f : Answered) → In f w.book.given → Told N (hearing_of p w.book.heard) f) → Stored (kept_answers s) w.book.given → Agrees N (after O w (at controller (receive x room)) (accepted None s []))
     agrees_accepted s n t d = record { ours = k.ours; spoken = k.spoken; known = rw e n; sent = k.sent; told = rw e t; stored = d; quiet = k.quiet }
 
   -- ---- an Invoke
 
-  module _ (valid-N : valid N ≡ true) (w : World) (x : List ℕ) (room i : ℕ) (l : Number) (c : CodeField) (v : Option Part) (e : parse x ≡ Invoke i l c v) (m : In (wired kiosk x) w.book.wire) (k : Agrees N w) where
+  module _ (valid-N : valid N ≡ true) (w : World) (x : List ℕ) (room i : ℕ) (l : Option ℕ) (c : Option Code) (v : Option Part) (e : parse x ≡ Invoke i l c v) (m : In (wired kiosk x) w.book.wire) (k : Agrees N w) where
     -- what is heard with the Invoke
     abbrev new : Record
     new = record { id = i; code = field_code c }
@@ -99,7 +97,7 @@ module _ (O N : List ℕ) where
     -- what counts as given by the caller
     abbrev own_entry : Service → ℕ → Answered
     own_entry q n = record {
-      given = record { id = i; operation = last_code i heard'; kind = a_result; error = none; value = value_in (parse (reply i (code_of_service q) n)) };
+      given = record { id = i; operation = last_code i heard'; kind = a_result; error = None; value = value_in (parse (reply i (code_of_service q) n)) };
       apdu = reply i (code_of_service q) n;
     }
 
@@ -108,16 +106,16 @@ module _ (O N : List ℕ) where
         let y = reply i (code_of_service q) n in
         let back = reply_reads i q n (k.ours.fits new asked_new).0 in
         let code = same_new (code_of_service q) same in
-        let value : value_in (parse y) ≡ some (enumerated n) = ap value_in back in
+        let value : value_in (parse y) ≡ Some (enumerated n) = ap value_in back in
         record {
           size = reply_short i q n;
           from = last_new;
           says = inl (record {
             kind = refl;
             error = refl;
-            shown = last_part y (some (enumerated n));
+            shown = last_part y (Some (enumerated n));
             octets = sym value;
-            reads = back ∙ (λ t. Result i (body_of (sym code t) (last_part y (some (enumerated n)))));
+            reads = back ∙ (λ t. Result i (body_of (sym code t) (last_part y (Some (enumerated n)))));
             class = (λ t. is_class 3 5 (class_in N (code t))) ∙ ps.class;
             right = (λ t. value_right (result_of (operation_of N (code t))) (value t)) ∙ ps.right n;
           });
@@ -125,7 +123,7 @@ module _ (O N : List ℕ) where
 
     -- the reply, and behind it answers that were given before
     agrees_replied : (q : Service) (n : ℕ) (rest : List (List ℕ)) (s : Held) → field_code c ≡ code_of_service q → Passes N (code_of_service q) → peer_records s ≡ peer_records w.controller → Stored (kept_answers s) w.book.given
-        → Each (IsAnswer w.book.given) rest → Agrees N (after O w (at controller (receive x room)) (accepted none s (reply i (code_of_service q) n ∷ rest)))
+        → Each (IsAnswer w.book.given) rest → Agrees N (after O w (at controller (receive x room)) (accepted None s (reply i (code_of_service q) n ∷ rest)))
     agrees_replied q n rest s code ps same st earlier =
         let y = reply i (code_of_service q) n in
         record {
@@ -151,10 +149,10 @@ module _ (O N : List ℕ) where
         let ps = passing Probe q refl p in
         let j = linked_to (about Probe (octets_of v)) in
         let kept = kept_answers w.controller in
-        cond_elim (λ (a : List (List ℕ)). Agrees N (after O w (at controller (receive x room)) (accepted none w.controller a)))
+        cond_elim (λ (a : List (List ℕ)). Agrees N (after O w (at controller (receive x room)) (accepted None w.controller a)))
         (member j (peer_records w.controller)) (reply i probe_code 0 ∷ []) _
         (λ _. agrees_replied Probe 0 [] w.controller code ps refl k.stored tt)
-        (λ _. cond_elim (λ (a : List (List ℕ)). Agrees N (after O w (at controller (receive x room)) (accepted none w.controller a)))
+        (λ _. cond_elim (λ (a : List (List ℕ)). Agrees N (after O w (at controller (receive x room)) (accepted None w.controller a)))
         (is_kept j kept) (reply i probe_code 1 ∷ kept_apdu j kept ∷ []) (reply i probe_code 2 ∷ [])
         (λ h. agrees_replied Probe 1 (kept_apdu j kept ∷ []) w.controller code ps refl k.stored (k.stored _ (in_kept j kept h), tt))
         (λ _. agrees_replied Probe 2 [] w.controller code ps refl k.stored tt))

@@ -1,11 +1,11 @@
 -- The invariant of a run of the two ends, and what keeps each of its parts.
+use Rattle.std.specs.Prelude.{Option, Some, None}
 use Prim.Native.Nat.{ℕ, ◌≤◌}
 use mathlib.Core.Path.{◌≡◌, refl}
 use mathlib.Core.Bool.{true, false}
 use mathlib.Core.List.Memᴰ.{not-nil as in-nil}
 use mathlib.Core.List.{List, [], Memᴰ as In}
 use mathlib.Core.Logic.{◌⊎◌, ◌≢◌}
-use mathlib.Core.Option.{Option, some, none}
 use lib.ListN.{length, get_or}
 use Rattle.codes.specs.declared.Code.{Code}
 use Rattle.records.specs.declared.Record.{Record}
@@ -18,15 +18,12 @@ use Rattle.records.proofs.StoreLaws.{view_packed}
 use Rattle.records.specs.Records.{ids_of}
 use Rattle.optable.specs.Lookup.{operation_of, result_of, error_of, parameter_of}
 use Rattle.optable.specs.Value.{value_right}
-use Rattle.apdu.specs.declared.Number.{Number}
-use Rattle.apdu.specs.declared.CodeField.{CodeField}
-use Rattle.apdu.specs.declared.CodeField.TheVariants.{Is}
 use Rattle.apdu.specs.Field.{Part, octets_of}
 use Rattle.apdu.specs.Parse.{Apdu, parse, invoke as Invoke, result as Result, error as Error}
 use Rattle.apdu.proofs.RoundTrip.{body_of}
 use Rattle.protocol.specs.Check.{class_in, is_class, own_records, peer_records}
 use Rattle.protocol.specs.Receive.{field_code}
-use Rattle.protocol.specs.Demand3.{Small}
+use Rattle.protocol.specs.ShownWasGiven.{Small}
 use Rattle.protocol.specs.Book.{kiosk, controller, a_result, an_error, Given, Wired, wired, Answered, World, begin}
 use Rattle.apdu.proofs.FieldRoundTrip.{CodeFits}
 use Rattle.protocol.proofs.Steady.{Steady, steady_fresh}
@@ -45,7 +42,7 @@ pub record Ours (owns : List Record) (live : List ℕ) (asked : List Record) (sh
 
 -- each Invoke on the wire from the kiosk was asked
 abbrev pub Spoken : List Wired → List Record → Type 0
-Spoken wire asked = (x : List ℕ) → In (wired kiosk x) wire → (i : ℕ) (l : Number) (c : CodeField) (v : Option Part) → parse x ≡ Invoke i l c v
+Spoken wire asked = (x : List ℕ) → In (wired kiosk x) wire → (i : ℕ) (l : Option ℕ) (c : Option Code) (v : Option Part) → parse x ≡ Invoke i l c v
     → In (record { id = i; code = field_code c }) asked
 
 -- the controller's peer records were heard, and what was heard was asked
@@ -81,7 +78,7 @@ Quiet kept = (k : KeptAnswer) → In k kept → NoInvoke k.apdu
 -- an answer reads back as it was given, and the controller's table let it pass
 pub record ToldResult (N : List ℕ) (p : Apdu) (g : Given) : Type 0 where
   pub kind : g.kind ≡ a_result
-  pub error : ◌≡◌ {A = Option Code} g.error none
+  pub error : ◌≡◌ {A = Option Code} g.error None
   pub shown : Option Part
   pub octets : octets_of shown ≡ g.value
   pub reads : p ≡ Result g.id (body_of g.operation shown)
@@ -91,10 +88,10 @@ pub record ToldResult (N : List ℕ) (p : Apdu) (g : Given) : Type 0 where
 pub record ToldError (N : List ℕ) (p : Apdu) (g : Given) : Type 0 where
   pub kind : g.kind ≡ an_error
   pub code : Code
-  pub error : g.error ≡ some code
+  pub error : g.error ≡ Some code
   pub shown : Option Part
   pub octets : octets_of shown ≡ g.value
-  pub reads : p ≡ Error g.id (Is code) shown
+  pub reads : p ≡ Error g.id (Some code) shown
   pub class : is_class 4 5 (class_in N g.operation) ≡ false
   pub right : value_right (parameter_of (error_of N code)) g.value ≡ true
 

@@ -30,7 +30,7 @@ use Rattle.apdu.proofs.FirstOctet.{first_read}
 use Rattle.protocol.specs.Check.{peer_records, code_in}
 use Rattle.protocol.specs.Service.{reply, probed}
 use Rattle.protocol.specs.Receive.{field_code}
-use Rattle.protocol.specs.Demand3.{Small}
+use Rattle.protocol.specs.ShownWasGiven.{Small}
 use Rattle.protocol.specs.Book.{End, kiosk, controller, Wired, wired, Answered, wiring}
 use Rattle.apdu.proofs.FieldRoundTrip.{CodeFits}
 use Rattle.protocol.proofs.Ids.{in_without, in_member, in_code}
@@ -196,7 +196,7 @@ module _ {owns : List Record} {live : List ℕ} {asked : List Record} {shown : L
       fits'' q (inr m) = rw (in_one m) (si, sc)
 
       early' : (j : ℕ) → among j shown ≡ true → among j (ids_of (asked ++ (r ∷ []))) ≡ true
-      early' j h = rw (ids_added, among_added, o.early j h) refl
+      early' j h = rw (ids_added r asked, among_added j i (ids_of asked), o.early j h) refl
 
       mine' : (q : Record) → In q owns ⊎ In q (r ∷ []) → In q (asked ++ (r ∷ []))
       mine' q (inl m) = in_left (r ∷ []) (o.mine q m)
@@ -213,7 +213,7 @@ module _ {owns : List Record} {live : List ℕ} {asked : List Record} {shown : L
         unique = unique';
         fits = λ q m. fits'' q (in-cases asked m);
         early = early';
-        gone = λ j h. rw (ids_added, among_added, o.gone j h) (apart j h);
+        gone = λ j h. rw (ids_added r owns, among_added j i (ids_of owns), o.gone j h) (apart j h);
         once = o.once;
       }
 

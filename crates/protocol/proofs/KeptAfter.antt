@@ -1,9 +1,9 @@
--- What is kept after a call, by the call and whether it was refused: document 02, Seven. Nothing is assumed, since a call is accepted only on a sound state.
+-- What is kept after a call, by the call and whether it was refused: 'Kept answers'. Nothing is assumed, since a call is accepted only on a sound state.
+use Rattle.std.specs.Prelude.{Option, Some, None}
 use Prim.Native.Nat.{ℕ}
 use mathlib.Core.Path.{◌≡◌, refl, ap, ◌∙◌}
 use mathlib.Core.Bool.{cond}
 use mathlib.Core.List.{List}
-use mathlib.Core.Option.{Option}
 use lib.Dec.{eqb}
 use borrow.Author.Tests.{not-false}
 use Rattle.base.proofs.Tests.{cond_elim}
@@ -16,8 +16,6 @@ use Rattle.records.proofs.ShortLaws.{held_short}
 use Rattle.optable.specs.declared.Service.{Service}
 use Rattle.optable.specs.declared.Service.TheVariants.{Probe, Acknowledge, Ordinary}
 use Rattle.optable.specs.Service.{service_of}
-use Rattle.apdu.specs.declared.Number.{Number}
-use Rattle.apdu.specs.declared.Number.TheVariants.{Of, Absent}
 use Rattle.apdu.specs.Field.{Part, octets_of}
 use Rattle.apdu.specs.Parse.{Apdu, badly_structured, unrecognized, mistyped, parse, invoke as Invoke, result as Result, error as Error, reject as Reject}
 use Rattle.apdu.specs.Encode.{encode_error}
@@ -67,7 +65,7 @@ module _ (T : List ℕ) (s : Held) where
   Keeps l a = kept_answers (held_after s a) ≡ cond (is_refused a) (kept_answers s) l
 
   module _ (short : Short (kept_answers s)) where
-    invoked_keeps : (i : ℕ) (l : Number) (c : Code) (v : Option Part) (q : Service) → Keeps (kept_by_invoke q i (octets_of v) (kept_answers s)) (invoke_done T s i l c v q)
+    invoked_keeps : (i : ℕ) (l : Option ℕ) (c : Code) (v : Option Part) (q : Service) → Keeps (kept_by_invoke q i (octets_of v) (kept_answers s)) (invoke_done T s i l c v q)
     unfolding invoke_done
     invoked_keeps i l c v Probe = refl
     invoked_keeps i l c v Acknowledge = view_dropped s short (linked_to (about Acknowledge (octets_of v)))
@@ -84,8 +82,8 @@ module _ (T : List ℕ) (s : Held) where
         settle (Keeps (kept_by_invoke (service_of (field_code c)) i (octets_of v) (kept_answers s))) (invoke_checks T s i l c v) _ (λ _. refl) (λ _. invoked_keeps i l (field_code c) v (service_of (field_code c)))
     received_keeps x (Result i b) = settle (Keeps (kept_answers s)) (result_checks T s i b) _ (λ _. refl) (λ _. refl)
     received_keeps x (Error i e v) = settle (Keeps (kept_answers s)) (error_checks T s i e v) _ (λ _. refl) (λ _. refl)
-    received_keeps x (Reject Absent kind p) = refl
-    received_keeps x (Reject (Of i) kind p) = cond_elim (λ (t : Held). kept_answers t ≡ kept_answers s) (eqb kind 0x81) (without_own s i) s (λ _. refl) (λ _. refl)
+    received_keeps x (Reject None kind p) = refl
+    received_keeps x (Reject (Some i) kind p) = cond_elim (λ (t : Held). kept_answers t ≡ kept_answers s) (eqb kind 0x81) (without_own s i) s (λ _. refl) (λ _. refl)
 
     done_keeps : (c : Call) → Keeps (kept_by T s c) (done T s c)
     unfolding done

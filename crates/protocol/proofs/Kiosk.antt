@@ -1,4 +1,5 @@
 -- Each call at the kiosk keeps what the book says.
+use Rattle.std.specs.Prelude.{Option, Some, None}
 use Prim.Native.Nat.{ℕ}
 use mathlib.Core.Path.{◌≡◌, refl, sym, subst, ap, ◌∙◌}
 use mathlib.Core.Bool.{Bool, true, false, cond}
@@ -7,7 +8,6 @@ use mathlib.Core.List.Memᴰ.{append_right as in_right}
 use mathlib.Core.List.Memᴰ.{head as here}
 use mathlib.Core.List.{List, [], ◌∷◌, ◌++◌, Memᴰ as In}
 use mathlib.Core.Logic.{◌⊎◌, inl, inr}
-use mathlib.Core.Option.{Option, some, none}
 use native.Mathlib.Omega.{arith}
 use lib.Dec.{eqb}
 use Rattle.codes.specs.declared.Code.{Code}
@@ -21,10 +21,6 @@ use Rattle.optable.specs.declared.Service.TheVariants.{Probe, Acknowledge, Ordin
 use Rattle.optable.specs.Service.{probe_code, acknowledge_code, service_of}
 use Rattle.records.proofs.Soundness.{view_retired}
 use Rattle.records.specs.Numbers.{among, leaving}
-use Rattle.apdu.specs.declared.Number.{Number}
-use Rattle.apdu.specs.declared.Number.TheVariants.{Of, Absent}
-use Rattle.apdu.specs.declared.CodeField.{CodeField}
-use Rattle.apdu.specs.declared.CodeField.TheVariants.{Is}
 use Rattle.apdu.specs.Field.{Part, octets_of}
 use Rattle.apdu.specs.Parse.{Apdu, badly_structured, unrecognized, mistyped, parse, invoke as Invoke, result as Result, error as Error, reject as Reject}
 use Rattle.base.specs.Lists.{non_empty}
@@ -37,7 +33,7 @@ use Rattle.protocol.specs.Receive.{field_code, fault, invoke_checks, result_chec
 use Rattle.protocol.specs.Service.{about, probed, acknowledged, keeps_answers}
 use Rattle.protocol.specs.Perform.{checks, done, result_apdu, without_peer, answering}
 use Rattle.protocol.specs.Book.{leaving_by, End, kiosk, controller, at, Wired, wired, wiring, World, showing, shown_by, after}
-use Rattle.protocol.specs.Demand3.{InRange}
+use Rattle.protocol.specs.ShownWasGiven.{InRange}
 use Rattle.protocol.proofs.Checks.{Pass, settle}
 use Rattle.protocol.proofs.Facts.{invoke_facts, arrived_result, arrived_error, invoked_right}
 use Rattle.protocol.proofs.Steady.{Steady}
@@ -112,9 +108,9 @@ module _ (O N : List ℕ) where
     }
 
     -- one that writes nothing and keeps the kept answers
-    agrees_accepted : (i : Indication) (s : Held) → kept_answers s ≡ kept_answers w.kiosk → Ours (own_records s) (leaving_by p w.book.live) w.book.asked (showing (shown_by (some i)) w.shown)
-        → Agrees N (after O w (at kiosk (receive x room)) (accepted (some i) s []))
-    agrees_accepted i s same o = agrees_writing (some i) s [] tt (subst Quiet (sym same) k.quiet) o
+    agrees_accepted : (i : Indication) (s : Held) → kept_answers s ≡ kept_answers w.kiosk → Ours (own_records s) (leaving_by p w.book.live) w.book.asked (showing (shown_by (Some i)) w.shown)
+        → Agrees N (after O w (at kiosk (receive x room)) (accepted (Some i) s []))
+    agrees_accepted i s same o = agrees_writing (Some i) s [] tt (subst Quiet (sym same) k.quiet) o
 
     -- its own record leaves
     own_retired : {live : List ℕ} {shown : List ℕ} (i : ℕ) → Ours (without i (own_records w.kiosk)) live w.book.asked shown → Ours (own_records (without_own w.kiosk i)) live w.book.asked shown
@@ -123,17 +119,17 @@ module _ (O N : List ℕ) where
     settled : (cs : List Check) (a : Answer) → (Pass cs → Agrees N (after O w (at kiosk (receive x room)) a)) → Agrees N (after O w (at kiosk (receive x room)) (answer cs a))
     settled cs a f = settle (λ b. Agrees N (after O w (at kiosk (receive x room)) b)) cs a (λ r. agrees_refused w kiosk (receive x room) r k) f
 
-  agrees_invoked : (w : World) (x : List ℕ) (room i : ℕ) (l : Number) (c : CodeField) (v : Option Part) → parse x ≡ Invoke i l c v → Steady O w.kiosk → Agrees N w → (q : Service)
+  agrees_invoked : (w : World) (x : List ℕ) (room i : ℕ) (l : Option ℕ) (c : Option Code) (v : Option Part) → parse x ≡ Invoke i l c v → Steady O w.kiosk → Agrees N w → (q : Service)
       → Agrees N (after O w (at kiosk (receive x room)) (invoke_done O w.kiosk i l (field_code c) v q))
   unfolding invoke_done
   agrees_invoked w x room i l c v e s k Probe =
       let j = linked_to (about Probe (octets_of v)) in
-      agrees_writing w x room _ e k none w.kiosk (probed w.kiosk i j) (probed_quiet w.kiosk i j k.quiet) k.quiet k.ours
+      agrees_writing w x room _ e k None w.kiosk (probed w.kiosk i j) (probed_quiet w.kiosk i j k.quiet) k.quiet k.ours
   agrees_invoked w x room i l c v e s k Acknowledge =
       let j = linked_to (about Acknowledge (octets_of v)) in
-      agrees_writing w x room _ e k none (drop_answer w.kiosk (record { 0 = j })) (acknowledged w.kiosk i j) (acknowledged_quiet w.kiosk i j) (quiet_gone w.kiosk s.kept j k.quiet) k.ours
+      agrees_writing w x room _ e k None (drop_answer w.kiosk (record { 0 = j })) (acknowledged w.kiosk i j) (acknowledged_quiet w.kiosk i j) (quiet_gone w.kiosk s.kept j k.quiet) k.ours
   agrees_invoked w x room i l c v e s k Ordinary =
-      agrees_writing w x room _ e k (some (invoked i l (field_code c) v)) (drop_answer (with_peer O w.kiosk i (field_code c)) (record { 0 = i })) [] tt
+      agrees_writing w x room _ e k (Some (invoked i l (field_code c) v)) (drop_answer (with_peer O w.kiosk i (field_code c)) (record { 0 = i })) [] tt
       (dropped (kept_beside_peer O w.kiosk i (field_code c)))
       (subst (λ (m : List Record). Ours m w.book.live w.book.asked w.shown) (sym (own_beside O w.kiosk i (field_code c))) k.ours)
     where
@@ -142,8 +138,8 @@ module _ (O N : List ℕ) where
 
   agrees_in : (w : World) (x : List ℕ) (room : ℕ) (p : Apdu) → parse x ≡ p → Steady O w.kiosk → Agrees N w → Agrees N (after O w (at kiosk (receive x room)) (receive_apdu O w.kiosk x p))
   unfolding receive_apdu
-  agrees_in w x room (badly_structured p) e s k = agrees_refused w kiosk (receive x room) (fault x 2 Absent) k
-  agrees_in w x room unrecognized e s k = agrees_refused w kiosk (receive x room) (fault x 0 Absent) k
+  agrees_in w x room (badly_structured p) e s k = agrees_refused w kiosk (receive x room) (fault x 2 None) k
+  agrees_in w x room unrecognized e s k = agrees_refused w kiosk (receive x room) (fault x 0 None) k
   agrees_in w x room (mistyped i) e s k = agrees_refused w kiosk (receive x room) (fault x 1 i) k
   agrees_in w x room (Invoke i l c v) e s k =
       settled w x room _ e k (invoke_checks O w.kiosk i l c v) _
@@ -154,9 +150,9 @@ module _ (O N : List ℕ) where
   agrees_in w x room (Error i d v) e s k =
       settled w x room _ e k (error_checks O w.kiosk i d v) _
       (λ p. agrees_accepted w x room _ e k (erred i (field_code d) v (code_in (own_records w.kiosk) i)) (without_own w.kiosk i) refl (own_retired w x room _ e k i (ours_show i (arrived_error O w.kiosk i d v p).live k.ours)))
-  agrees_in w x room (Reject Absent kind p) e s k = agrees_accepted w x room _ e k (rejected_p Absent p) w.kiosk refl k.ours
-  agrees_in w x room (Reject (Of i) kind p) e s k =
-      agrees_accepted w x room _ e k (rejection (Of i) kind p) (retired_by w.kiosk (Of i) kind) (same (eqb kind 0x81)) (shows (eqb kind 0x80) (leaves (eqb kind 0x81)))
+  agrees_in w x room (Reject None kind p) e s k = agrees_accepted w x room _ e k (rejected_p None p) w.kiosk refl k.ours
+  agrees_in w x room (Reject (Some i) kind p) e s k =
+      agrees_accepted w x room _ e k (rejection (Some i) kind p) (retired_by w.kiosk (Some i) kind) (same (eqb kind 0x81)) (shows (eqb kind 0x80) (leaves (eqb kind 0x81)))
     where
       same : (b : Bool) → kept_answers (cond b (without_own w.kiosk i) w.kiosk) ≡ kept_answers w.kiosk
       same true = refl
@@ -166,13 +162,13 @@ module _ (O N : List ℕ) where
       leaves true = own_retired w x room _ e k i (ours_retire i k.ours)
       leaves false = k.ours
 
-      shows : (b : Bool) {owns : List Record} {live : List ℕ} → Ours owns live w.book.asked w.shown → Ours owns live w.book.asked (showing (shown_by (some (cond b (rejected_p (Of i) p) (rejected_u i kind p)))) w.shown)
+      shows : (b : Bool) {owns : List Record} {live : List ℕ} → Ours owns live w.book.asked w.shown → Ours owns live w.book.asked (showing (shown_by (Some (cond b (rejected_p (Some i) p) (rejected_u i kind p)))) w.shown)
       shows true o = o
       shows false o = o
 
   -- ---- the kiosk's requests
 
-  spoken_asked : {wire : List Wired} {asked : List Record} (i : ℕ) (l : Number) (c : Code) (v : Option (List ℕ)) (p : Option Part) → parse (encode_invoke i l c v) ≡ Invoke i l (Is c) p
+  spoken_asked : {wire : List Wired} {asked : List Record} (i : ℕ) (l : Option ℕ) (c : Code) (v : Option (List ℕ)) (p : Option Part) → parse (encode_invoke i l c v) ≡ Invoke i l (Some c) p
       → Spoken wire asked → Spoken (wiring kiosk (encode_invoke i l c v ∷ []) wire) (asked ++ (record { id = i; code = c } ∷ []))
   spoken_asked {wire} {asked} i l c v p back s y m i' l' c' v' e = go (wired_cases kiosk (encode_invoke i l c v) wire m)
     where
@@ -180,9 +176,9 @@ module _ (O N : List ℕ) where
       go (inl a) = in_left (record { id = i; code = c } ∷ []) (s y a i' l' c' v' e)
       go (inr a) =
           let q : y ≡ encode_invoke i l c v = ap (λ (z : Wired). z.apdu) a in
-          let b : parse y ≡ Invoke i l (Is c) p = ap parse q ∙ back in
+          let b : parse y ≡ Invoke i l (Some c) p = ap parse q ∙ back in
           let d : i' ≡ i = cc in
-          let f : c' ≡ Is c = cc in
+          let f : c' ≡ Some c = cc in
           in_right asked (here (rw (d, f)))
 
   -- a request that writes no Invoke and asks nothing
@@ -233,7 +229,7 @@ module _ (O N : List ℕ) where
   agrees_kiosk w (result i v room) h s n k p =
       agrees_given w (result i v room) i (result_apdu w.kiosk i v) (omega (arith, first_result i (code_in (peer_records w.kiosk) i) (non_empty v))) s k
   agrees_kiosk w (error i e v room) h s n k p = agrees_given w (error i e v room) i (encode_error i e (non_empty v)) (omega (arith, first_error i e (non_empty v))) s k
-  agrees_kiosk w (reject i q room) h s n k p = agrees_answering w (reject i q room) _ (encode_reject (Of i) 0x81 q) (omega (arith, first_reject (Of i) 0x81 q)) refl k.quiet k
+  agrees_kiosk w (reject i q room) h s n k p = agrees_answering w (reject i q room) _ (encode_reject (Some i) 0x81 q) (omega (arith, first_reject (Some i) 0x81 q)) refl k.quiet k
   agrees_kiosk w (forget own i) h s n k p = record {
     ours = subst (λ (l : List Record). Ours l (leaving i w.book.live) w.book.asked w.shown) (sym (view_retired w.kiosk.state.own i)) (ours_retire i k.ours);
     spoken = k.spoken;

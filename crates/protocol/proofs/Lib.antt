@@ -1,4 +1,4 @@
--- Laws and proofs of the protocol. Theorem has demand 3, Invariant what it rests on, Steady and Fitting the run of one end, Resting and KeptAfter what changes the ids that rest and the kept answers, Room that what receive writes fits, Parted that written octets come apart as the APDUs, Computed P1 to P12 and the runs of Witness and Fetching; Instance says that demand 3 speaks of two.
+-- Laws and proofs of the protocol. Theorem has that what is shown was given, Invariant what it rests on, Steady and Fitting the run of one end, Resting and KeptAfter what changes the ids that rest and the kept answers, Room that what receive writes fits, Parted that written octets come apart as the APDUs, Computed P1 to P12 and the runs of Witness and Fetching; Instance says that the theorem speaks of two.
 pub mod Checks
 pub mod Facts
 pub mod Refusals

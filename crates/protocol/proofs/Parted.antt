@@ -4,7 +4,7 @@ use mathlib.Core.Path.{◌≡◌, refl, ap}
 use mathlib.Core.Bool.{true, cond}
 use mathlib.Core.List.Memᴰ.{not-nil as in-nil}
 use mathlib.Core.List.{List, [], ◌∷◌, ◌++◌}
-use mathlib.Core.Option.{Option, some}
+use Rattle.std.specs.Prelude.{Option, Some, None}
 use native.Mathlib.Omega.{arith}
 use lib.ListN.{length, take, drop, length-append}
 use lib.Seq.{take-append_seam, drop-append_seam}
@@ -15,7 +15,7 @@ use Rattle.records.specs.Kept.{is_kept}
 use Rattle.records.specs.Held.{Held, fresh_held, kept_answers}
 use Rattle.records.proofs.StoreLaws.{view_packed}
 use Rattle.ber.specs.declared.header.Header.{Header}
-use Rattle.ber.specs.declared.header.Header.TheVariants.{At, Open, NoHeader}
+use Rattle.ber.specs.declared.header.Header.TheVariants.{At, Open}
 use Rattle.ber.specs.Header.{one_of, header_of}
 use Rattle.ber.specs.Element.{element_octets}
 use Rattle.ber.proofs.ElementOctets.{one_octet, header_octets, element_octets_length}
@@ -23,8 +23,6 @@ use Rattle.optable.specs.declared.Service.{Service}
 use Rattle.optable.specs.declared.Service.TheVariants.{Probe, Acknowledge, Ordinary}
 use Rattle.optable.specs.Service.{service_of}
 use Rattle.optable.proofs.ServiceLaws.{code_of_service}
-use Rattle.apdu.specs.declared.Number.{Number}
-use Rattle.apdu.specs.declared.Number.TheVariants.{Of, Absent}
 use Rattle.apdu.specs.Field.{Part, octets_of}
 use Rattle.apdu.specs.Parse.{Apdu, badly_structured, unrecognized, mistyped, parse, invoke as Invoke, result as Result, error as Error, reject as Reject}
 use Rattle.apdu.specs.Encode.{encode_invoke, encode_result, encode_error, encode_reject}
@@ -44,10 +42,10 @@ use Rattle.protocol.proofs.KeptAfter.{each_after}
 -- ---- octets taken apart
 
 -- where the element at the front of x ends, as its length says; octets without a definite length there are taken whole
-abbrev pub end_by : List ℕ → Header → ℕ
-end_by x (At id a e) = e
-end_by x (Open id a) = length x
-end_by x NoHeader = length x
+abbrev pub end_by : List ℕ → Option Header → ℕ
+end_by x (Some (At id a e)) = e
+end_by x (Some (Open id a)) = length x
+end_by x None = length x
 
 unfoldable pub first_end : List ℕ → ℕ
 first_end x = end_by x (header_of x)
@@ -90,7 +88,7 @@ delimited t c g h = record {
   ends = λ y. ap (end_by (element_octets t c ++ y)) (header_octets t c y g (omega (arith, element_octets_length t c)));
 }
 
-delimited_invoke : (i : ℕ) (l : Number) (c : Code) (v : Option (List ℕ)) → length (encode_invoke i l c v) ≤ octets → Delimited (encode_invoke i l c v)
+delimited_invoke : (i : ℕ) (l : Option ℕ) (c : Code) (v : Option (List ℕ)) → length (encode_invoke i l c v) ≤ octets → Delimited (encode_invoke i l c v)
 unfolding encode_invoke one_of
 delimited_invoke i l c v h = delimited 0xA1 _ refl h
 
@@ -102,13 +100,13 @@ delimited_error : (i : ℕ) (c : Code) (v : Option (List ℕ)) → length (encod
 unfolding encode_error one_of
 delimited_error i c v h = delimited 0xA3 _ refl h
 
-delimited_reject : (i : Number) (k p : ℕ) → Delimited (encode_reject i k p)
+delimited_reject : (i : Option ℕ) (k p : ℕ) → Delimited (encode_reject i k p)
 unfolding encode_reject one_of
 delimited_reject i k p = delimited 0xA4 _ refl (omega (arith, reject_most i k p))
 
 delimited_reply : (i : ℕ) (q : Service) (n : ℕ) → Delimited (reply i (code_of_service q) n)
 unfolding reply
-delimited_reply i q n = delimited_result i (code_of_service q) (some (enumerated n)) (reply_short i q n)
+delimited_reply i q n = delimited_result i (code_of_service q) (Some (enumerated n)) (reply_short i q n)
 
 -- ---- each call writes such APDUs where each kept one is such
 
@@ -120,7 +118,7 @@ refusal_writes (plain n) = tt
 refusal_writes (rejecting i kind p) = (delimited_reject i kind p, tt)
 
 module _ (T : List ℕ) (s : Held) (k : EachKept Delimited (kept_answers s)) where
-  invoked_writes : (i : ℕ) (l : Number) (c : Code) (v : Option Part) (q : Service) → Writes (invoke_done T s i l c v q)
+  invoked_writes : (i : ℕ) (l : Option ℕ) (c : Code) (v : Option Part) (q : Service) → Writes (invoke_done T s i l c v q)
   unfolding invoke_done acknowledged
   invoked_writes i l c v Probe = each_probed Delimited s i (linked_to (about Probe (octets_of v))) (delimited_reply i Probe) k
   invoked_writes i l c v Acknowledge = (delimited_reply i Acknowledge (cond (is_kept (linked_to (about Acknowledge (octets_of v))) (kept_answers s)) 0 1), tt)
@@ -128,8 +126,8 @@ module _ (T : List ℕ) (s : Held) (k : EachKept Delimited (kept_answers s)) whe
 
   received_writes : (x : List ℕ) (p : Apdu) → Writes (receive_apdu T s x p)
   unfolding receive_apdu
-  received_writes x (badly_structured p) = refusal_writes (fault x 2 Absent)
-  received_writes x unrecognized = refusal_writes (fault x 0 Absent)
+  received_writes x (badly_structured p) = refusal_writes (fault x 2 None)
+  received_writes x unrecognized = refusal_writes (fault x 0 None)
   received_writes x (mistyped i) = refusal_writes (fault x 1 i)
   received_writes x (Invoke i l c v) = settle Writes (invoke_checks T s i l c v) _ refusal_writes (λ _. invoked_writes i l (field_code c) v (service_of (field_code c)))
   received_writes x (Result i b) = settle Writes (result_checks T s i b) _ refusal_writes (λ _. tt)
@@ -142,7 +140,7 @@ module _ (T : List ℕ) (s : Held) (k : EachKept Delimited (kept_answers s)) whe
   done_writes (invoke i c l v room) p = (delimited_invoke i l c (non_empty v) (limits_size in_apdu (non_empty v) _ (invoke_facts T s i v room c l p).sendable.within), tt)
   done_writes (result i v room) p = (delimited_result i (code_in (peer_records s) i) (non_empty v) (limits_size in_body (non_empty v) _ (result_facts T s i v room p).sendable.within), tt)
   done_writes (error i e v room) p = (delimited_error i e (non_empty v) (limits_size in_apdu (non_empty v) _ (error_facts T s i v room e p).sendable.within), tt)
-  done_writes (reject i q room) p = (delimited_reject (Of i) 0x81 q, tt)
+  done_writes (reject i q room) p = (delimited_reject (Some i) 0x81 q, tt)
   done_writes (forget own i) p = tt
   done_writes (forget peer i) p = tt
 

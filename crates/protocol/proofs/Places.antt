@@ -1,17 +1,15 @@
 -- A value that receive indicates stands at its place in the octets that were lent, within them: a caller may take `&apdu[at..end]`.
+use Rattle.std.specs.Prelude.{Option, Some, None}
 use Prim.Native.Nat.{ℕ}
 use mathlib.Core.Bool.{Bool, true, false, cond}
 use mathlib.Core.List.{List}
-use mathlib.Core.Option.{Option, some, none}
 use lib.Dec.{eqb}
 use Rattle.codes.specs.declared.Code.{Code}
 use Rattle.records.specs.Held.{Held}
 use Rattle.optable.specs.declared.Service.{Service}
 use Rattle.optable.specs.declared.Service.TheVariants.{Probe, Acknowledge, Ordinary}
 use Rattle.optable.specs.Service.{service_of}
-use Rattle.apdu.specs.declared.Number.{Number}
 use Rattle.apdu.specs.Field.{Part}
-use Rattle.apdu.specs.declared.Number.TheVariants.{Of, Absent}
 use Rattle.apdu.specs.Parse.{Apdu, badly_structured, unrecognized, mistyped, parse, invoke as Invoke, result as Result, error as Error, reject as Reject}
 use Rattle.apdu.proofs.ValuePlace.{ValueStands, BodyStands, ApduStands, parse_stands}
 use Rattle.protocol.specs.Call.{Indication, invoked, resulted, erred, rejected_u, rejected_p, receive, indicated_by}
@@ -21,15 +19,15 @@ use Rattle.protocol.proofs.Checks.{settle}
 
 -- the value of an indication stands in x
 abbrev pub ShownStands : List ℕ → Option Indication → Type 0
-ShownStands x none = Unit {0}
-ShownStands x (some (invoked i l c v)) = ValueStands x v
-ShownStands x (some (resulted i b c)) = BodyStands x b
-ShownStands x (some (erred i e v c)) = ValueStands x v
-ShownStands x (some (rejected_u i kind p)) = Unit {0}
-ShownStands x (some (rejected_p i p)) = Unit {0}
+ShownStands x None = Unit {0}
+ShownStands x (Some (invoked i l c v)) = ValueStands x v
+ShownStands x (Some (resulted i b c)) = BodyStands x b
+ShownStands x (Some (erred i e v c)) = ValueStands x v
+ShownStands x (Some (rejected_u i kind p)) = Unit {0}
+ShownStands x (Some (rejected_p i p)) = Unit {0}
 
 module _ (T : List ℕ) (s : Held) (x : List ℕ) where
-  invoked_stands : (i : ℕ) (l : Number) (c : Code) (v : Option Part) (q : Service) → ValueStands x v → ShownStands x (indicated_by (invoke_done T s i l c v q))
+  invoked_stands : (i : ℕ) (l : Option ℕ) (c : Code) (v : Option Part) (q : Service) → ValueStands x v → ShownStands x (indicated_by (invoke_done T s i l c v q))
   unfolding invoke_done
   invoked_stands i l c v Probe w = tt
   invoked_stands i l c v Acknowledge w = tt
@@ -43,10 +41,10 @@ module _ (T : List ℕ) (s : Held) (x : List ℕ) where
   received_stands (Invoke i l c v) w = settle (λ a. ShownStands x (indicated_by a)) (invoke_checks T s i l c v) _ (λ _. tt) (λ _. invoked_stands i l (field_code c) v (service_of (field_code c)) w)
   received_stands (Result i b) w = settle (λ a. ShownStands x (indicated_by a)) (result_checks T s i b) _ (λ _. tt) (λ _. w)
   received_stands (Error i e v) w = settle (λ a. ShownStands x (indicated_by a)) (error_checks T s i e v) _ (λ _. tt) (λ _. w)
-  received_stands (Reject Absent kind p) w = tt
-  received_stands (Reject (Of i) kind p) w = silent (eqb kind 0x80)
+  received_stands (Reject None kind p) w = tt
+  received_stands (Reject (Some i) kind p) w = silent (eqb kind 0x80)
     where
-      silent : (b : Bool) → ShownStands x (some (cond b (rejected_p (Of i) p) (rejected_u i kind p)))
+      silent : (b : Bool) → ShownStands x (Some (cond b (rejected_p (Some i) p) (rejected_u i kind p)))
       silent true = tt
       silent false = tt
 

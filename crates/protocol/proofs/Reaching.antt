@@ -1,10 +1,10 @@
--- An answer that reaches the kiosk is accepted exactly when its id is live and, for an error, O lists it; an unlisted one is refused as demand 3 says.
+-- An answer that reaches the kiosk is accepted exactly when its id is live and, for an error, O lists it; an unlisted one is refused as 'What is shown was given' says.
+use Rattle.std.specs.Prelude.{Option, Some, None}
 use Prim.Native.Nat.{ℕ, ◌≤◌}
 use mathlib.Core.Path.{◌≡◌, refl, sym, ap, ◌∙◌}
 use mathlib.Core.Bool.{Bool, true, false}
 use mathlib.Core.List.{List, Memᴰ as In}
 use mathlib.Core.Logic.{◌⊎◌, inl, inr}
-use mathlib.Core.Option.{Option, some, none}
 use native.Mathlib.Omega.{arith}
 use lib.ListN.{length}
 use borrow.Author.Tests.{le-ltb}
@@ -17,8 +17,6 @@ use Rattle.records.specs.Numbers.{among}
 use Rattle.optable.specs.Validity.{valid}
 use Rattle.optable.specs.Lookup.{Extends, operation_of, error_of, known, paired, room_needed}
 use Rattle.optable.proofs.TableLaws.{paired_known}
-use Rattle.apdu.specs.declared.Number.TheVariants.{Of}
-use Rattle.apdu.specs.declared.CodeField.TheVariants.{Is}
 use Rattle.apdu.specs.Field.{Part}
 use Rattle.apdu.specs.Parse.{CodedValue, Apdu, parse, result as Result, error as Error}
 use Rattle.apdu.proofs.RoundTrip.{body_of}
@@ -27,7 +25,7 @@ use Rattle.protocol.specs.Check.{code_in, class_in, is_class, own_records}
 use Rattle.protocol.specs.Receive.{other_code, result_checks, error_checks, receive_apdu}
 use Rattle.protocol.specs.Perform.{later_checks, checks, done, perform}
 use Rattle.protocol.specs.Book.{Given, World}
-use Rattle.protocol.specs.Demand3.{is_live, Listed, unlisted_problem, AnswerClaim, Reaches}
+use Rattle.protocol.specs.ShownWasGiven.{is_live, Listed, unlisted_problem, AnswerClaim, Reaches}
 use Rattle.protocol.proofs.Checks.{Pass, pass, accepted_passes}
 use Rattle.protocol.proofs.Facts.{ArrivedError, arrived_result, arrived_error}
 use Rattle.protocol.proofs.Ids.{in_code}
@@ -38,8 +36,8 @@ use Rattle.protocol.proofs.Showing.{body_value_lem, same_code_lem}
 
 -- the code that stands beside a value is the record's
 same_beside : (c : Code) (v : Option Part) (d : Code) → d ≡ c → other_code (body_of c v) d ≡ false
-same_beside c none d e = refl
-same_beside c (some v) d e = rw (equal_code_same c d (sym e))
+same_beside c None d e = refl
+same_beside c (Some v) d e = rw (equal_code_same c d (sym e))
 
 module _ (O N : List ℕ) (valid-O : valid O ≡ true) (extends : Extends N O) where
   -- ---- a live id at the kiosk
@@ -71,7 +69,7 @@ module _ (O N : List ℕ) (valid-O : valid O ≡ true) (extends : Extends N O) w
         body : Option CodedValue
         body = body_of g.operation t.shown
 
-        no_error : {A : Type 0} (e : Code) → g.error ≡ some e → A
+        no_error : {A : Type 0} (e : Code) → g.error ≡ Some e → A
         no_error e q = let u = t.error in let z : ◌≡◌ {A = ℕ} 0 1 = cc in absurd (omega arith)
 
         passes : member g.id (own_records w.kiosk) ≡ true → is_refused (receive_apdu O w.kiosk x (Result g.id body)) ≡ false
@@ -89,31 +87,31 @@ module _ (O N : List ℕ) (valid-O : valid O ≡ true) (extends : Extends N O) w
       unlisted = λ e q l u. stops e (code_is e q) (live_member w inv g.id l) u (known (error_of O e)) refl;
     })
       where
-        code_is : (e : Code) → g.error ≡ some e → t.code ≡ e
+        code_is : (e : Code) → g.error ≡ Some e → t.code ≡ e
         code_is e q = cc t.error
 
-        facts : is_refused (receive_apdu O w.kiosk x (Error g.id (Is t.code) t.shown)) ≡ false → ArrivedError O w.kiosk g.id (Is t.code)
-        facts h = arrived_error O w.kiosk g.id (Is t.code) t.shown (accepted_passes (error_checks O w.kiosk g.id (Is t.code) t.shown) _ h)
+        facts : is_refused (receive_apdu O w.kiosk x (Error g.id (Some t.code) t.shown)) ≡ false → ArrivedError O w.kiosk g.id (Some t.code)
+        facts h = arrived_error O w.kiosk g.id (Some t.code) t.shown (accepted_passes (error_checks O w.kiosk g.id (Some t.code) t.shown) _ h)
 
-        live : is_refused (receive_apdu O w.kiosk x (Error g.id (Is t.code) t.shown)) ≡ false → member g.id (own_records w.kiosk) ≡ true
+        live : is_refused (receive_apdu O w.kiosk x (Error g.id (Some t.code) t.shown)) ≡ false → member g.id (own_records w.kiosk) ≡ true
         live h = (facts h).live
 
-        listing : is_refused (receive_apdu O w.kiosk x (Error g.id (Is t.code) t.shown)) ≡ false → Listed O g
+        listing : is_refused (receive_apdu O w.kiosk x (Error g.id (Some t.code) t.shown)) ≡ false → Listed O g
         listing h e q =
             rw (← (same_code_lem O N w inv.agrees g.id g.operation m (live h)), ← (code_is e q)) (facts h).listed
 
         class : member g.id (own_records w.kiosk) ≡ true → is_class 4 5 (class_in O (code_in (own_records w.kiosk) g.id)) ≡ false
         class h = rw (← (same_operation_lem w inv g.id g.operation m h)) t.class
 
-        passes : member g.id (own_records w.kiosk) ≡ true → paired O g.operation t.code ≡ true → is_refused (receive_apdu O w.kiosk x (Error g.id (Is t.code) t.shown)) ≡ false
+        passes : member g.id (own_records w.kiosk) ≡ true → paired O g.operation t.code ≡ true → is_refused (receive_apdu O w.kiosk x (Error g.id (Some t.code) t.shown)) ≡ false
         passes h l =
             let s = same_code_lem O N w inv.agrees g.id g.operation m h in
             let n = paired_known O valid-O g.operation t.code l in
-            ap is_refused (pass (error_checks O w.kiosk g.id (Is t.code) t.shown) _
+            ap is_refused (pass (error_checks O w.kiosk g.id (Some t.code) t.shown) _
             (rw h, (class h, (rw n, (rw (s, l), (rw (← (extends.errors t.code n), t.octets, t.right), tt))))))
 
         stops : (e : Code) → t.code ≡ e → member g.id (own_records w.kiosk) ≡ true → paired O g.operation e ≡ false → (b : Bool) → known (error_of O e) ≡ b
-            → receive_apdu O w.kiosk x (Error g.id (Is t.code) t.shown) ≡ refused (rejecting (Of g.id) 0x83 (unlisted_problem O e))
+            → receive_apdu O w.kiosk x (Error g.id (Some t.code) t.shown) ≡ refused (rejecting (Some g.id) 0x83 (unlisted_problem O e))
         stops e q h u true n = let s = same_code_lem O N w inv.agrees g.id g.operation m h in rw (q, h, class h, n, s, u)
         stops e q h u false n = rw (q, h, class h, n)
 

@@ -1,10 +1,10 @@
 -- What receive answers itself: how long it is, what it reads as, and that a valid table lets it pass.
+use Rattle.std.specs.Prelude.{Some}
 use Prim.Native.Nat.{ℕ, ◌+◌, ◌≤◌, ◌<◌, ◌^◌}
 use mathlib.Core.Path.{◌≡◌, refl, ◌∙◌}
 use mathlib.Core.Bool.{true, false}
 use mathlib.Core.List.{List, [], ◌∷◌, ◌++◌}
 use mathlib.Core.Logic.{◌⊎◌, inl, inr}
-use mathlib.Core.Option.{some}
 use native.Mathlib.Omega.{arith}
 use lib.ListN.{length, length-append}
 use lib.Dec.{eqb}
@@ -33,7 +33,7 @@ use Rattle.apdu.proofs.FieldRoundTrip.{last_part, CodeFits}
 use Rattle.apdu.proofs.RoundTrip.{body_of, parse_result}
 use Rattle.protocol.specs.Check.{class_in, is_class}
 use Rattle.protocol.specs.Service.{enumerated, reply}
-use Rattle.protocol.specs.Demand3.{Small}
+use Rattle.protocol.specs.ShownWasGiven.{Small}
 
 -- ---- octets
 
@@ -69,16 +69,16 @@ module _ (i : ℕ) (q : Service) (n : ℕ) where
   pub reply_short : length (reply i (code_of_service q) n) ≤ octets
   reply_short = omega (arith, reply_most i q n)
 
-  pub reply_reads : Small i → parse (reply i (code_of_service q) n) ≡ Result i (body_of (code_of_service q) (last_part (reply i (code_of_service q) n) (some (enumerated n))))
+  pub reply_reads : Small i → parse (reply i (code_of_service q) n) ≡ Result i (body_of (code_of_service q) (last_part (reply i (code_of_service q) n) (Some (enumerated n))))
   unfolding reply
-  reply_reads si = parse_result i (code_of_service q) (some (enumerated n)) si (service_fits q) (enumerated_well n) reply_short
+  reply_reads si = parse_result i (code_of_service q) (Some (enumerated n)) si (service_fits q) (enumerated_well n) reply_short
 
 -- ---- the table
 
 -- a reply passes the result's checks
 pub record Passes (T : List ℕ) (c : Code) : Type 0 where
   pub class : is_class 3 5 (class_in T c) ≡ false
-  pub right : (n : ℕ) → value_right (result_of (operation_of T c)) (some (enumerated n)) ≡ true
+  pub right : (n : ℕ) → value_right (result_of (operation_of T c)) (Some (enumerated n)) ≡ true
 
 pub service_passes : (T : List ℕ) (c : Code) (q : Service) → valid T ≡ true → service_of c ≡ q → answers_itself q ≡ true → listed (operation_of T c) ≡ true → Passes T c
 unfolding value_right

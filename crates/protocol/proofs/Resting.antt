@@ -1,9 +1,9 @@
 -- Only an accepted forget of an own record changes the ids that rest: every other call leaves them alone.
+use Rattle.std.specs.Prelude.{Option, Some, None}
 use Prim.Native.Nat.{ℕ}
 use mathlib.Core.Path.{◌≡◌, refl}
 use mathlib.Core.Bool.{Bool, true, false, cond}
 use mathlib.Core.List.{List}
-use mathlib.Core.Option.{Option}
 use lib.Dec.{eqb}
 use Rattle.base.proofs.Tests.{cond_elim}
 use Rattle.records.specs.declared.Resting.{Resting}
@@ -15,8 +15,6 @@ use Rattle.codes.specs.declared.Code.{Code}
 use Rattle.optable.specs.declared.Service.{Service}
 use Rattle.optable.specs.declared.Service.TheVariants.{Probe, Acknowledge, Ordinary}
 use Rattle.optable.specs.Service.{service_of}
-use Rattle.apdu.specs.declared.Number.{Number}
-use Rattle.apdu.specs.declared.Number.TheVariants.{Of, Absent}
 use Rattle.apdu.specs.Field.{Part}
 use Rattle.apdu.specs.Parse.{Apdu, badly_structured, unrecognized, mistyped, parse, invoke as Invoke, result as Result, error as Error, reject as Reject}
 use Rattle.protocol.specs.Call.{own, peer, Call, receive, invoke, result, error, reject, forget, is_refused, held_after}
@@ -54,7 +52,7 @@ module _ (T : List ℕ) (s : Held) where
   peer_alone : (i : ℕ) (c : Code) → Same (with_peer T s i c)
   peer_alone i c = cond_elim Same (is_silent T c) s (in_state s (add_peer s.state (record { 0 = i }) c)) (λ _. refl) (λ _. refl)
 
-  invoked_alone : (i : ℕ) (l : Number) (c : Code) (v : Option Part) (q : Service) → Same (held_after s (invoke_done T s i l c v q))
+  invoked_alone : (i : ℕ) (l : Option ℕ) (c : Code) (v : Option Part) (q : Service) → Same (held_after s (invoke_done T s i l c v q))
   unfolding invoke_done
   invoked_alone i l c v Probe = refl
   invoked_alone i l c v Acknowledge = refl
@@ -70,8 +68,8 @@ module _ (T : List ℕ) (s : Held) where
       (λ _. invoked_alone i l (field_code c) v (service_of (field_code c)))
   received_alone x (Result i b) = settle (λ a. Same (held_after s a)) (result_checks T s i b) _ (λ _. refl) (λ _. refl)
   received_alone x (Error i e v) = settle (λ a. Same (held_after s a)) (error_checks T s i e v) _ (λ _. refl) (λ _. refl)
-  received_alone x (Reject Absent kind p) = refl
-  received_alone x (Reject (Of i) kind p) = cond_elim Same (eqb kind 0x81) (without_own s i) s (λ _. refl) (λ _. refl)
+  received_alone x (Reject None kind p) = refl
+  received_alone x (Reject (Some i) kind p) = cond_elim Same (eqb kind 0x81) (without_own s i) s (λ _. refl) (λ _. refl)
 
   answered_alone : (b : Bool) (l : List KeptAnswer) (t : Held) → Same t → Same (cond b (keep_these t l) t)
   answered_alone true l t h = h

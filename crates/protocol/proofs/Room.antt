@@ -1,12 +1,13 @@
--- What receive writes fits the room that it was lent, for every table, state, store and APDU: document 02, Seven. What it needs is lent once 2 has passed.
+-- What receive writes fits the room that it was lent, for every table, state, store and APDU. What it needs is lent once 2 has passed.
+use Rattle.std.specs.Prelude.{Option, None}
 use Prim.Native.Nat.{ℕ, ◌+◌, ◌≤◌}
 use mathlib.Core.Path.{◌≡◌, refl}
 use mathlib.Core.Bool.{true, cond}
 use mathlib.Core.List.{List, [], ◌∷◌, ◌++◌}
-use mathlib.Core.Option.{Option}
 use native.Mathlib.Omega.{arith}
 use lib.ListN.{length, length-append}
 use borrow.Author.Tests.{not-false, ltb-false}
+use Rattle.codes.specs.declared.Code.{Code}
 use Rattle.base.proofs.Tests.{cond_elim}
 use Rattle.records.specs.Records.{member}
 use Rattle.records.specs.Kept.{is_kept, kept_apdu}
@@ -18,9 +19,6 @@ use Rattle.optable.specs.declared.Service.TheVariants.{Probe, Acknowledge, Ordin
 use Rattle.optable.specs.Service.{probe_code, acknowledge_code, service_of}
 use Rattle.optable.specs.Lookup.{room_needed}
 use Rattle.optable.proofs.ServiceLaws.{service_code, room_bounds}
-use Rattle.apdu.specs.declared.Number.{Number}
-use Rattle.apdu.specs.declared.Number.TheVariants.{Absent}
-use Rattle.apdu.specs.declared.CodeField.{CodeField}
 use Rattle.apdu.specs.Field.{Part, octets_of}
 use Rattle.apdu.specs.Parse.{Apdu, badly_structured, unrecognized, mistyped, parse, invoke as Invoke, result as Result, error as Error, reject as Reject}
 use Rattle.apdu.specs.Encode.{encode_reject}
@@ -69,7 +67,7 @@ module _ (T : List ℕ) where
   refusal_fits (rejecting i kind p) = one_fits (encode_reject i kind p) (room_needed T) (omega (arith, reject_most i kind p, (room_bounds T).least))
 
   module _ (s : Held) (sound : sound_held s ≡ true) where
-    invoked_fits : (i : ℕ) (l : Number) (c : CodeField) (v : Option Part) (q : Service) → service_of (field_code c) ≡ q → Pass (invoke_checks T s i l c v) → Fits (room_needed T) (invoke_done T s i l (field_code c) v q)
+    invoked_fits : (i : ℕ) (l : Option ℕ) (c : Option Code) (v : Option Part) (q : Service) → service_of (field_code c) ≡ q → Pass (invoke_checks T s i l c v) → Fits (room_needed T) (invoke_done T s i l (field_code c) v q)
     unfolding invoke_done acknowledged
     invoked_fits i l c v Probe e p =
         let known = rw (service_code (field_code c) Probe e refl) at (operation_listed T c (arrived_invoke T s i l c v p).known) in
@@ -82,8 +80,8 @@ module _ (T : List ℕ) where
 
     received_fits : (x : List ℕ) (p : Apdu) → Fits (room_needed T) (receive_apdu T s x p)
     unfolding receive_apdu
-    received_fits x (badly_structured p) = refusal_fits (fault x 2 Absent)
-    received_fits x unrecognized = refusal_fits (fault x 0 Absent)
+    received_fits x (badly_structured p) = refusal_fits (fault x 2 None)
+    received_fits x unrecognized = refusal_fits (fault x 0 None)
     received_fits x (mistyped i) = refusal_fits (fault x 1 i)
     received_fits x (Invoke i l c v) = settle (Fits (room_needed T)) (invoke_checks T s i l c v) _ refusal_fits (invoked_fits i l c v (service_of (field_code c)) refl)
     received_fits x (Result i b) = settle (Fits (room_needed T)) (result_checks T s i b) _ refusal_fits (λ _. omega arith)

@@ -1,10 +1,10 @@
--- What demand 3 claims of a call at the kiosk follows from the invariant.
+-- What the theorem claims of a call at the kiosk follows from the invariant.
+use Rattle.std.specs.Prelude.{Option, Some, None}
 use Prim.Native.Nat.{ℕ}
 use mathlib.Core.Path.{◌≡◌, refl, sym, subst, ap, ◌∙◌}
 use mathlib.Core.Bool.{Bool, true, false, cond}
 use mathlib.Core.List.{List, Memᴰ as In}
 use mathlib.Core.Logic.{◌⊎◌, inl, inr}
-use mathlib.Core.Option.{Option, some, none}
 use native.Mathlib.Omega.{arith}
 use lib.Dec.{eqb}
 use Rattle.codes.specs.declared.Code.{Code}
@@ -13,8 +13,6 @@ use Rattle.records.specs.Records.{member}
 use Rattle.optable.specs.declared.Service.{Service}
 use Rattle.optable.specs.declared.Service.TheVariants.{Probe, Acknowledge, Ordinary}
 use Rattle.optable.specs.Service.{service_of}
-use Rattle.apdu.specs.declared.Number.{Number}
-use Rattle.apdu.specs.declared.Number.TheVariants.{Of, Absent}
 use Rattle.apdu.specs.Field.{Part, octets_of}
 use Rattle.apdu.specs.Parse.{body_value, Apdu, badly_structured, unrecognized, mistyped, parse, invoke as Invoke, result as Result, error as Error, reject as Reject}
 use Rattle.apdu.proofs.FirstOctet.{kind_octet, first_read}
@@ -24,7 +22,7 @@ use Rattle.protocol.specs.Check.{code_in, own_records}
 use Rattle.protocol.specs.Receive.{field_code, invoke_checks, invoke_done, result_checks, error_checks, receive_apdu}
 use Rattle.protocol.specs.Perform.{checks, done, perform}
 use Rattle.protocol.specs.Book.{controller, a_result, an_error, Given, wired, World, shown_by}
-use Rattle.protocol.specs.Demand3.{WasGiven}
+use Rattle.protocol.specs.ShownWasGiven.{WasGiven}
 use Rattle.protocol.proofs.Checks.{settle}
 use Rattle.protocol.proofs.Facts.{arrived_result, arrived_error}
 use Rattle.protocol.proofs.Ids.{in_code, one_code}
@@ -33,26 +31,26 @@ use Rattle.protocol.proofs.Invariant.{Sayable, ToldResult, ToldError, Agrees}
 -- ---- what a received result or error shows, with the record's operation code
 
 abbrev pub reads_as : Apdu → Code → Option Given
-reads_as (badly_structured p) c = none
-reads_as unrecognized c = none
-reads_as (mistyped i) c = none
-reads_as (Invoke i l d v) c = none
-reads_as (Result i b) c = some (record { id = i; operation = c; kind = a_result; error = none; value = octets_of (body_value b) })
-reads_as (Error i e v) c = some (record { id = i; operation = c; kind = an_error; error = some (field_code e); value = octets_of v })
-reads_as (Reject i kind p) c = none
+reads_as (badly_structured p) c = None
+reads_as unrecognized c = None
+reads_as (mistyped i) c = None
+reads_as (Invoke i l d v) c = None
+reads_as (Result i b) c = Some (record { id = i; operation = c; kind = a_result; error = None; value = octets_of (body_value b) })
+reads_as (Error i e v) c = Some (record { id = i; operation = c; kind = an_error; error = Some (field_code e); value = octets_of v })
+reads_as (Reject i kind p) c = None
 
-some_given : {g h : Given} → ◌≡◌ {A = Option Given} (some g) (some h) → g ≡ h
+some_given : {g h : Given} → ◌≡◌ {A = Option Given} (Some g) (Some h) → g ≡ h
 some_given e = cc
 
-none_given : {A : Type 0} {g : Given} → ◌≡◌ {A = Option Given} none (some g) → A
+none_given : {A : Type 0} {g : Given} → ◌≡◌ {A = Option Given} None (Some g) → A
 none_given {A} {g} e = let z : ◌≡◌ {A = ℕ} 0 1 = cc in absurd (omega arith)
 
 record Reads (p : Apdu) (c : Code) (g : Given) : Type 0 where
   operation : g.operation ≡ c
-  same_id : (d : Code) (h : Given) → reads_as p d ≡ some h → h.id ≡ g.id
+  same_id : (d : Code) (h : Given) → reads_as p d ≡ Some h → h.id ≡ g.id
   kind : (kind_octet p ≡ 0xA2) ⊎ (kind_octet p ≡ 0xA3)
 
-reads_facts : (p : Apdu) (c : Code) (g : Given) → reads_as p c ≡ some g → Reads p c g
+reads_facts : (p : Apdu) (c : Code) (g : Given) → reads_as p c ≡ Some g → Reads p c g
 reads_facts (badly_structured p) c g e = none_given e
 reads_facts unrecognized c g e = none_given e
 reads_facts (mistyped i) c g e = none_given e
@@ -74,45 +72,45 @@ given_made : (g : Given) {id : ℕ} {op : Code} (k : _) {e : Option Code} {v : O
 given_made g k a b c d e = λ i. record { id = sym a i; operation = sym b i; kind = sym c i; error = sym d i; value = sym e i }
 
 pub body_value_lem : (c : Code) (v : Option Part) → body_value (body_of c v) ≡ v
-body_value_lem c none = refl
-body_value_lem c (some v) = refl
+body_value_lem c None = refl
+body_value_lem c (Some v) = refl
 
 -- an answer of the book shows what was given
-told_reads : {N : List ℕ} {p : Apdu} (g : Given) → ToldResult N p g ⊎ ToldError N p g → reads_as p g.operation ≡ some g
-told_reads g (inl t) = rw t.reads (ap {B = Option Given} (λ h. some h) (given_made g a_result refl refl t.kind t.error (sym (ap octets_of (body_value_lem g.operation t.shown) ∙ t.octets))))
-told_reads g (inr t) = rw t.reads (ap {B = Option Given} (λ h. some h) (given_made g an_error refl refl t.kind t.error (sym t.octets)))
+told_reads : {N : List ℕ} {p : Apdu} (g : Given) → ToldResult N p g ⊎ ToldError N p g → reads_as p g.operation ≡ Some g
+told_reads g (inl t) = rw t.reads (ap {B = Option Given} (λ h. Some h) (given_made g a_result refl refl t.kind t.error (sym (ap octets_of (body_value_lem g.operation t.shown) ∙ t.octets))))
+told_reads g (inr t) = rw t.reads (ap {B = Option Given} (λ h. Some h) (given_made g an_error refl refl t.kind t.error (sym t.octets)))
 
 -- ---- what the kiosk shows was given
 
 record Shows (s : Held) (p : Apdu) (g : Given) : Type 0 where
   live : member g.id (own_records s) ≡ true
-  reads : reads_as p (code_in (own_records s) g.id) ≡ some g
+  reads : reads_as p (code_in (own_records s) g.id) ≡ Some g
 
 -- a received Invoke shows none
-invoked_none : (O : List ℕ) (s : Held) (i : ℕ) (l : Number) (c : Code) (v : Option Part) (q : Service) → shown_by (indicated_by (invoke_done O s i l c v q)) ≡ none
+invoked_none : (O : List ℕ) (s : Held) (i : ℕ) (l : Option ℕ) (c : Code) (v : Option Part) (q : Service) → shown_by (indicated_by (invoke_done O s i l c v q)) ≡ None
 unfolding invoke_done
 invoked_none O s i l c v Probe = refl
 invoked_none O s i l c v Acknowledge = refl
 invoked_none O s i l c v Ordinary = refl
 
-shows_in : (O : List ℕ) (s : Held) (x : List ℕ) (p : Apdu) (g : Given) → shown_by (indicated_by (receive_apdu O s x p)) ≡ some g → Shows s p g
+shows_in : (O : List ℕ) (s : Held) (x : List ℕ) (p : Apdu) (g : Given) → shown_by (indicated_by (receive_apdu O s x p)) ≡ Some g → Shows s p g
 unfolding receive_apdu
 shows_in O s x (badly_structured p) g h = none_given h
 shows_in O s x unrecognized g h = none_given h
 shows_in O s x (mistyped i) g h = none_given h
 shows_in O s x (Invoke i l c v) g h =
-    settle (λ a. shown_by (indicated_by a) ≡ some g → Shows s (Invoke i l c v) g) (invoke_checks O s i l c v) _ (λ _ q. none_given q)
+    settle (λ a. shown_by (indicated_by a) ≡ Some g → Shows s (Invoke i l c v) g) (invoke_checks O s i l c v) _ (λ _ q. none_given q)
     (λ _ q. none_given (sym (invoked_none O s i l (field_code c) v (service_of (field_code c))) ∙ q)) h
 shows_in O s x (Result i b) g h =
-    settle (λ a. shown_by (indicated_by a) ≡ some g → Shows s (Result i b) g) (result_checks O s i b) _ (λ _ q. none_given q)
+    settle (λ a. shown_by (indicated_by a) ≡ Some g → Shows s (Result i b) g) (result_checks O s i b) _ (λ _ q. none_given q)
     (λ p q. subst (λ (k : Given). Shows s (Result i b) k) (some_given q) (record { live = arrived_result O s i b p; reads = refl })) h
 shows_in O s x (Error i e v) g h =
-    settle (λ a. shown_by (indicated_by a) ≡ some g → Shows s (Error i e v) g) (error_checks O s i e v) _ (λ _ q. none_given q)
+    settle (λ a. shown_by (indicated_by a) ≡ Some g → Shows s (Error i e v) g) (error_checks O s i e v) _ (λ _ q. none_given q)
     (λ p q. subst (λ (k : Given). Shows s (Error i e v) k) (some_given q) (record { live = (arrived_error O s i e v p).live; reads = refl })) h
-shows_in O s x (Reject Absent kind p) g h = none_given h
-shows_in O s x (Reject (Of i) kind p) g h = none_given (sym (silent (eqb kind 0x80)) ∙ h)
+shows_in O s x (Reject None kind p) g h = none_given h
+shows_in O s x (Reject (Some i) kind p) g h = none_given (sym (silent (eqb kind 0x80)) ∙ h)
   where
-    silent : (b : Bool) → ◌≡◌ {A = Option Given} (shown_by (some (cond b (rejected_p (Of i) p) (rejected_u i kind p)))) none
+    silent : (b : Bool) → ◌≡◌ {A = Option Given} (shown_by (Some (cond b (rejected_p (Some i) p) (rejected_u i kind p)))) None
     silent true = refl
     silent false = refl
 
@@ -130,7 +128,7 @@ module _ (O N : List ℕ) where
       go : Sayable w.book.given x → WasGiven w.book g
       go (inl t) =
           let f = t.0 in
-          let said : reads_as (parse x) f.given.operation ≡ some f.given = rw t.2 at (told_reads f.given (k.told f t.1).says) in
+          let said : reads_as (parse x) f.given.operation ≡ Some f.given = rw t.2 at (told_reads f.given (k.told f t.1).says) in
           let a : f.given.id ≡ g.id = facts.same_id f.given.operation f.given said in
           let q : code_in (own_records w.kiosk) f.given.id ≡ f.given.operation = same_code_lem w k f.given.id f.given.operation (k.told f t.1).from (rw a s.live) in
           let q' : code_in (own_records w.kiosk) g.id ≡ f.given.operation = rw a at q in
@@ -147,8 +145,8 @@ module _ (O N : List ℕ) where
           octet (inr e) = t.1 (first_read x (parse x) refl (omega (arith, e)) ∙ e)
 
   -- every result or error indicated at the kiosk was given
-  pub shows_given : (w : World) (x : List ℕ) (room : ℕ) → Agrees N w → In (wired controller x) w.book.wire → (g : Given) → shown_by (indicated_by (perform O w.kiosk (receive x room))) ≡ some g → WasGiven w.book g
+  pub shows_given : (w : World) (x : List ℕ) (room : ℕ) → Agrees N w → In (wired controller x) w.book.wire → (g : Given) → shown_by (indicated_by (perform O w.kiosk (receive x room))) ≡ Some g → WasGiven w.book g
   unfolding perform done
   shows_given w x room k m g h =
-      settle (λ a. shown_by (indicated_by a) ≡ some g → WasGiven w.book g) (checks O w.kiosk (receive x room)) (receive_apdu O w.kiosk x (parse x)) (λ _ q. none_given q)
+      settle (λ a. shown_by (indicated_by a) ≡ Some g → WasGiven w.book g) (checks O w.kiosk (receive x room)) (receive_apdu O w.kiosk x (parse x)) (λ _ q. none_given q)
       (λ _ q. reply w x g k m (shows_in O w.kiosk x (parse x) g q)) h

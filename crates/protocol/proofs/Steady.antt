@@ -1,9 +1,9 @@
 -- One end, call after call: each call leaves its state sound beside its store, and covered by its table.
+use Rattle.std.specs.Prelude.{Option, Some, None}
 use Prim.Native.Nat.{ℕ, ◌<◌}
 use mathlib.Core.Path.{◌≡◌, refl, sym, subst, ap, ◌∙◌}
 use mathlib.Core.Bool.{Bool, true, false, not, ◌&&◌}
 use mathlib.Core.List.{List}
-use mathlib.Core.Option.{Option}
 use lib.ListN.{length}
 use native.Mathlib.Omega.{arith}
 use lib.Dec.{eqb}
@@ -30,9 +30,6 @@ use Rattle.optable.specs.declared.Service.TheVariants.{Probe, Acknowledge, Ordin
 use Rattle.optable.specs.Service.{service_of}
 use Rattle.optable.specs.Lookup.{operation_of, listed}
 use Rattle.optable.proofs.NameLaws.{listed_code_right}
-use Rattle.apdu.specs.declared.Number.{Number}
-use Rattle.apdu.specs.declared.Number.TheVariants.{Of, Absent}
-use Rattle.apdu.specs.declared.CodeField.{CodeField}
 use Rattle.apdu.specs.Field.{Part}
 use Rattle.apdu.specs.Encode.{encode_error}
 use Rattle.base.specs.Lists.{non_empty}
@@ -64,7 +61,7 @@ module _ (T : List ℕ) where
       let form = listed_code_right T v r.code known in
       record {
         sound = added_is_sound h.sound r room new form;
-        known = ap (covered T) (view_added h.sound r room form) ∙ covered_added T r (view d) h.known known;
+        known = ap (covered T) (view_added h.sound r room) ∙ covered_added T r (view d) h.known known;
       }
 
   -- a side has room where a call that makes a record was not refused for it
@@ -151,7 +148,7 @@ module _ (T : List ℕ) where
       record {
         own = side_added r new v known vacant h.own;
         peer = h.peer;
-        resting = subst (λ (l : List Record). SoundResting l s.state.resting) (sym (view_added h.own.sound r vacant (listed_code_right T v c known))) (rest_added h.resting r free);
+        resting = subst (λ (l : List Record). SoundResting l s.state.resting) (sym (view_added h.own.sound r vacant)) (rest_added h.resting r free);
         kept = h.kept;
       })
 
@@ -167,12 +164,12 @@ module _ (T : List ℕ) where
         own = h.own;
         peer = side_added r new v known vacant h.peer;
         resting = h.resting;
-        kept = packed_store _ (subst (λ (l : List Record). SoundKept l (kept_without i (kept_answers s))) (sym (view_added h.peer.sound r vacant (listed_code_right T v c known))) (kept_added h.kept.sound r));
+        kept = packed_store _ (subst (λ (l : List Record). SoundKept l (kept_without i (kept_answers s))) (sym (view_added h.peer.sound r vacant)) (kept_added h.kept.sound r));
       })
 
   -- ---- each call keeps it
 
-  steady_invoked : (s : Held) (i : ℕ) (l : Number) (c : CodeField) (v : Option Part) (q : Service) → service_of (field_code c) ≡ q → valid T ≡ true → Pass (invoke_checks T s i l c v) → Steady s
+  steady_invoked : (s : Held) (i : ℕ) (l : Option ℕ) (c : Option Code) (v : Option Part) (q : Service) → service_of (field_code c) ≡ q → valid T ≡ true → Pass (invoke_checks T s i l c v) → Steady s
       → Steady (held_after s (invoke_done T s i l (field_code c) v q))
   unfolding invoke_done
   steady_invoked s i l c v Probe q w p h = h
@@ -191,8 +188,8 @@ module _ (T : List ℕ) where
       (λ p. steady_invoked s i l c v (service_of (field_code c)) refl w p h)
   steady_received s x (Result i b) w h = settle (λ a. Steady (held_after s a)) (result_checks T s i b) _ (λ _. h) (λ _. steady_own_retired i h)
   steady_received s x (Error i e v) w h = settle (λ a. Steady (held_after s a)) (error_checks T s i e v) _ (λ _. h) (λ _. steady_own_retired i h)
-  steady_received s x (Reject Absent kind p) w h = h
-  steady_received s x (Reject (Of i) kind p) w h = cond_elim Steady (eqb kind 0x81) (without_own s i) s (λ _. steady_own_retired i h) (λ _. h)
+  steady_received s x (Reject None kind p) w h = h
+  steady_received s x (Reject (Some i) kind p) w h = cond_elim Steady (eqb kind 0x81) (without_own s i) s (λ _. steady_own_retired i h) (λ _. h)
 
   steady_done : (s : Held) (c : Call) → Pass (checks T s c) → Steady s → Steady (held_after s (done T s c))
   unfolding done

@@ -1,9 +1,9 @@
--- Demand 3, proved: the invariant holds at every call of the list, and what is claimed of each call follows from it.
+-- What is shown was given, proved: the invariant holds at every call of the list, and what is claimed of each call follows from it.
+use Rattle.std.specs.Prelude.{Some, None}
 use Prim.Native.Nat.{ℕ}
 use mathlib.Core.Path.{◌≡◌, refl}
 use mathlib.Core.Bool.{true, false}
 use mathlib.Core.List.{List, [], ◌∷◌}
-use mathlib.Core.Option.{some, none}
 use native.Mathlib.Omega.{arith}
 use Rattle.records.specs.declared.Record.{Record}
 use Rattle.records.specs.Held.{fresh_held}
@@ -17,7 +17,7 @@ use Rattle.protocol.specs.Call.{own, peer, Call, receive, invoke, result, error,
 use Rattle.protocol.specs.Check.{Check, answer}
 use Rattle.protocol.specs.Perform.{checks, done, perform}
 use Rattle.protocol.specs.Book.{asking, kiosk, controller, Event, at, Given, World, begin, shown_by, after, answer_to, next, Along, final}
-use Rattle.protocol.specs.Demand3.{Fair, UsesIdsOnce, Claim, Demand3}
+use Rattle.protocol.specs.ShownWasGiven.{Fair, UsesIdsOnce, Claim, ShownWasGiven}
 use Rattle.protocol.proofs.Checks.{Pass, settle}
 use Rattle.protocol.proofs.Steady.{steady_step}
 use Rattle.protocol.proofs.Invariant.{Agrees, Inv, inv_begin}
@@ -27,7 +27,7 @@ use Rattle.protocol.proofs.Showing.{shows_given}
 use Rattle.protocol.proofs.Reaching.{reaches}
 
 module _ (O N : List ℕ) where
-  -- ---- 'an id for one accepted invocation only', said of the whole list, holds before each call
+  -- ---- that an id is used for one accepted invocation only, said of the whole list, holds before each call
 
   asked_before : (c : Call) (l : List Record) → each_once (ids_of (asking kiosk c l)) ≡ true → (each_once (ids_of l) ≡ true) × (is_invoke c ≡ true → among (id_in c) (ids_of l) ≡ false)
   asked_before (receive x room) l h = (h, λ q. absurd (let z : ◌≡◌ {A = ℕ} 0 1 = cc in omega arith))
@@ -90,9 +90,9 @@ module _ (O N : List ℕ) where
 
   module _ (valid-O : valid O ≡ true) (valid-N : valid N ≡ true) (extends : Extends N O) where
     -- a request indicates nothing
-    silent : {A : Type 0} (cs : List Check) (s : _) (x : List (List ℕ)) (g : Given) → shown_by (indicated_by (answer cs (accepted none s x))) ≡ some g → A
+    silent : {A : Type 0} (cs : List Check) (s : _) (x : List (List ℕ)) (g : Given) → shown_by (indicated_by (answer cs (accepted None s x))) ≡ Some g → A
     silent {A} cs s x g h =
-        settle (λ a. shown_by (indicated_by a) ≡ some g → A) cs (accepted none s x)
+        settle (λ a. shown_by (indicated_by a) ≡ Some g → A) cs (accepted None s x)
         (λ _ q. let z : ◌≡◌ {A = ℕ} 0 1 = cc in absurd (omega arith)) (λ _ q. let z : ◌≡◌ {A = ℕ} 0 1 = cc in absurd (omega arith)) h
 
     claim : (w : World) (e : Event) → Fair O w e → Inv O N w → Claim O N w e
@@ -112,7 +112,7 @@ module _ (O N : List ℕ) where
         let rest = along l (next O N w e) (step valid-N w e f.0 (once_run l (next O N w e) u) inv) f.1 u in
         ((claim w e f.0 inv, rest.0), rest.1)
 
-pub demand_3 : Demand3
-demand_3 O N valid-O valid-N extends l fair once =
+pub shown_was_given : ShownWasGiven
+shown_was_given O N valid-O valid-N extends l fair once =
     let p = along O N valid-O valid-N extends l (begin fresh_held) (inv_begin O N) fair once in
     record { each = p.0; once = p.1 }

@@ -1,13 +1,11 @@
--- The two ends, the channel and the book: document 01, 'The book for demand 3'; document 02, Seven. Wire, asked, heard, given and live are that part's own terms.
-use Rattle.std.specs.Prelude.{ℕ, Bool, true, false, cond, List, [], ◌∷◌, ◌++◌, eqb}
-use Rattle.std.proofs.Math.Option.{Option, some, none}
+-- The two ends, the channel and the book: 'The book'. Wire, asked, heard, given and live are that part's own terms.
+use Rattle.std.specs.Prelude.{ℕ, Bool, true, false, cond, List, [], ◌∷◌, ◌++◌, eqb, Option, Some, None}
 use Rattle.codes.specs.declared.Code.{Code}
 use Rattle.codes.specs.declared.Code.TheVariants.{Local}
 use Rattle.records.specs.declared.Record.{Record}
 use Rattle.records.specs.Held.{Held}
 use Rattle.records.specs.Numbers.{among, leaving}
 use Rattle.records.specs.Records.{ids_of}
-use Rattle.apdu.specs.declared.Number.TheVariants.{Of, Absent}
 use Rattle.apdu.specs.Field.{octets_of}
 use Rattle.apdu.specs.Parse.{body_value, Apdu, badly_structured, unrecognized, mistyped, parse, invoke as Invoke, result as Result, error as Error, reject as Reject}
 use Rattle.base.specs.Lists.{non_empty}
@@ -108,20 +106,20 @@ given_by g (x ∷ more) l = l ++ (record { given = g; apdu = x } ∷ [])
 
 -- the value of the result that an APDU is
 abbrev pub value_in : Apdu → Option (List ℕ)
-value_in (badly_structured p) = none
-value_in unrecognized = none
-value_in (mistyped i) = none
-value_in (Invoke i l c v) = none
+value_in (badly_structured p) = None
+value_in unrecognized = None
+value_in (mistyped i) = None
+value_in (Invoke i l c v) = None
 value_in (Result i b) = octets_of (body_value b)
-value_in (Error i e v) = none
-value_in (Reject i kind p) = none
+value_in (Error i e v) = None
+value_in (Reject i kind p) = None
 
 -- an answer of the controller's own to an Invoke counts as given by its caller
 abbrev pub giving_own : List Record → Apdu → List ℕ → List Answered → List Answered
 giving_own heard (badly_structured p) x l = l
 giving_own heard unrecognized x l = l
 giving_own heard (mistyped i) x l = l
-giving_own heard (Invoke i k c v) x l = l ++ (record { given = record { id = i; operation = last_code i heard; kind = a_result; error = none; value = value_in (parse x) }; apdu = x } ∷ [])
+giving_own heard (Invoke i k c v) x l = l ++ (record { given = record { id = i; operation = last_code i heard; kind = a_result; error = None; value = value_in (parse x) }; apdu = x } ∷ [])
 giving_own heard (Result i b) x l = l
 giving_own heard (Error i e v) x l = l
 giving_own heard (Reject i kind p) x l = l
@@ -130,8 +128,8 @@ giving_own heard (Reject i kind p) x l = l
 -- an APDU behind an own answer is a kept one, which was given before
 abbrev pub giving : List Record → End → Call → List (List ℕ) → List Answered → List Answered
 giving heard kiosk c w l = l
-giving heard controller (result i v room) w l = given_by (record { id = i; operation = last_code i heard; kind = a_result; error = none; value = non_empty v }) w l
-giving heard controller (error i e v room) w l = given_by (record { id = i; operation = last_code i heard; kind = an_error; error = some e; value = non_empty v }) w l
+giving heard controller (result i v room) w l = given_by (record { id = i; operation = last_code i heard; kind = a_result; error = None; value = non_empty v }) w l
+giving heard controller (error i e v room) w l = given_by (record { id = i; operation = last_code i heard; kind = an_error; error = Some e; value = non_empty v }) w l
 giving heard controller (receive y room) [] l = l
 giving heard controller (receive y room) (x ∷ more) l = giving_own heard (parse y) x l
 giving heard controller (invoke i c k v room) w l = l
@@ -146,8 +144,8 @@ leaving_by (mistyped i) l = l
 leaving_by (Invoke i k c v) l = l
 leaving_by (Result i b) l = leaving i l
 leaving_by (Error i e v) l = leaving i l
-leaving_by (Reject Absent kind p) l = l
-leaving_by (Reject (Of i) kind p) l = cond (eqb kind 0x81) (leaving i l) l
+leaving_by (Reject None kind p) l = l
+leaving_by (Reject (Some i) kind p) l = cond (eqb kind 0x81) (leaving i l) l
 
 -- it enters with an accepted invoke request of the kiosk, class in O not 5, and leaves also with a forget of it on its own side
 abbrev pub living : List ℕ → End → Call → List ℕ → List ℕ
@@ -191,16 +189,16 @@ begin s = record { kiosk = s; controller = s; book = empty_book; shown = [] }
 
 -- the result or error that an indication shows
 abbrev pub shown_by : Option Indication → Option Given
-shown_by none = none
-shown_by (some (invoked i l c v)) = none
-shown_by (some (resulted i b c)) = some (record { id = i; operation = c; kind = a_result; error = none; value = octets_of (body_value b) })
-shown_by (some (erred i e v c)) = some (record { id = i; operation = c; kind = an_error; error = some e; value = octets_of v })
-shown_by (some (rejected_u i kind p)) = none
-shown_by (some (rejected_p i p)) = none
+shown_by None = None
+shown_by (Some (invoked i l c v)) = None
+shown_by (Some (resulted i b c)) = Some (record { id = i; operation = c; kind = a_result; error = None; value = octets_of (body_value b) })
+shown_by (Some (erred i e v c)) = Some (record { id = i; operation = c; kind = an_error; error = Some e; value = octets_of v })
+shown_by (Some (rejected_u i kind p)) = None
+shown_by (Some (rejected_p i p)) = None
 
 abbrev pub showing : Option Given → List ℕ → List ℕ
-showing none shown = shown
-showing (some g) shown = shown ++ (g.id ∷ [])
+showing None shown = shown
+showing (Some g) shown = shown ++ (g.id ∷ [])
 
 -- after a call that was answered so
 abbrev pub after : List ℕ → World → Event → Answer → World

@@ -1,11 +1,9 @@
--- The six calls and what one answers: document 01, 'What is built' and 'Requests', and document 02's request Four, the place of a fault.
-use Rattle.std.specs.Prelude.{ℕ, Bool, true, false, cond, ◌&&◌, ◌||◌, List, [], ◌∷◌, ◌++◌, eqb}
-use Rattle.std.proofs.Math.Option.{Option, none}
+-- The six calls and what one answers: 'What is built', 'Requests, in order of check', and the place of a fault, 'Where octets are at fault'.
+use Rattle.std.specs.Prelude.{ℕ, Bool, true, false, cond, ◌&&◌, ◌||◌, List, [], ◌∷◌, ◌++◌, eqb, Option, None}
 use Rattle.codes.specs.declared.Code.{Code}
 use Rattle.records.specs.Held.{Held}
 use Rattle.records.specs.Limits.{levels}
 use Rattle.ber.specs.Element.{place}
-use Rattle.apdu.specs.declared.Number.{Number}
 use Rattle.apdu.specs.Field.{Part}
 use Rattle.apdu.specs.Parse.{CodedValue}
 use Rattle.apdu.specs.Encode.{encode_reject}
@@ -19,7 +17,7 @@ pub data Call : Type 0 where
   -- octets, room
   receive : List ℕ → ℕ → Call
   -- id, code, linked id, value, room
-  invoke : ℕ → Code → Number → List ℕ → ℕ → Call
+  invoke : ℕ → Code → Option ℕ → List ℕ → ℕ → Call
   -- id, value, room
   result : ℕ → List ℕ → ℕ → Call
   -- id, error code, value, room
@@ -33,7 +31,7 @@ pub data Call : Type 0 where
 -- with the record's operation code
 pub data Indication : Type 0 where
   -- id, linked id, operation code, argument
-  invoked : ℕ → Number → Code → Option Part → Indication
+  invoked : ℕ → Option ℕ → Code → Option Part → Indication
   -- id, code and value, the record's operation code
   resulted : ℕ → Option CodedValue → Code → Indication
   -- id, error code, parameter, the record's operation code
@@ -41,12 +39,12 @@ pub data Indication : Type 0 where
   -- RO-REJECT-U: id, the problem's kind 81 to 83, the problem
   rejected_u : ℕ → ℕ → ℕ → Indication
   -- RO-REJECT-P: id, the general problem
-  rejected_p : Number → ℕ → Indication
+  rejected_p : Option ℕ → ℕ → Indication
 
--- a refusal: one of the papers' numbers; 18 also returns the problem's kind and number, and the id that its Reject carries
+-- a refusal: its number in 'The table of refusals'; 18 also returns the problem's kind and number, and the id that its Reject carries
 pub data Refusal : Type 0 where
   plain : ℕ → Refusal
-  rejecting : Number → ℕ → ℕ → Refusal
+  rejecting : Option ℕ → ℕ → ℕ → Refusal
 
 -- what a call answers: accepted with what it indicates, what the end then holds and the APDUs that it wrote, end to end, or refused
 pub data Answer : Type 0 where
@@ -68,7 +66,7 @@ is_refused (refused r) = true
 
 abbrev pub indicated_by : Answer → Option Indication
 indicated_by (accepted i s x) = i
-indicated_by (refused r) = none
+indicated_by (refused r) = None
 
 -- each APDU written, in order
 abbrev pub written_by : Answer → List (List ℕ)

@@ -1,11 +1,8 @@
--- A call is an ordered list of checks, and what it answers when all pass; and what the checks ask: document 01, the table of refusals.
-use Rattle.std.specs.Prelude.{ℕ, ◌-◌, Bool, true, false, cond, not, ◌&&◌, ◌||◌, List, [], ◌∷◌, length, eqb, leb, ltb}
-use Rattle.std.proofs.Math.Option.{Option, some, none}
+-- A call is an ordered list of checks, and what it answers when all pass; and what the checks ask: 'The table of refusals'.
+use Rattle.std.specs.Prelude.{ℕ, ◌-◌, Bool, true, false, cond, not, ◌&&◌, ◌||◌, List, [], ◌∷◌, length, eqb, leb, ltb, Option, Some, None}
 use Rattle.codes.specs.declared.Code.{Code}
 use Rattle.codes.specs.declared.Code.TheVariants.{Local}
 use Rattle.records.specs.declared.Record.{Record}
-use Rattle.records.specs.declared.Found.{Found}
-use Rattle.records.specs.declared.Found.TheVariants.{Operation, Nothing}
 use Rattle.records.specs.Limits.{octets, levels, records}
 use Rattle.records.specs.Records.{view, lookup}
 use Rattle.records.specs.Resting.{view_ids}
@@ -15,8 +12,6 @@ use Rattle.ber.specs.declared.element.Finding.TheVariants.{One}
 use Rattle.ber.specs.Element.{well_formed, finding_in}
 use Rattle.optable.specs.Validity.{valid}
 use Rattle.optable.specs.Lookup.{operation_of, listed, class_of}
-use Rattle.apdu.specs.declared.Number.{Number}
-use Rattle.apdu.specs.declared.Number.TheVariants.{Of, Absent}
 use Rattle.protocol.specs.Call.{Refusal, plain, Answer, refused}
 
 -- ---- the order of checks
@@ -49,9 +44,9 @@ abbrev pub resting_ids : Held → List ℕ
 resting_ids s = view_ids s.state.resting
 
 -- the record's operation code; 0 where there is no record
-abbrev pub code_found : Found → Code
-code_found (Operation c) = c
-code_found Nothing = Local 0
+abbrev pub code_found : Option Code → Code
+code_found (Some c) = c
+code_found None = Local 0
 
 abbrev pub code_in : List Record → ℕ → Code
 code_in l i = code_found (lookup i l)
@@ -92,25 +87,25 @@ shared T s = (19 ⇐ not (sound_held s)) ∷ (1 ⇐ not (usable T s)) ∷ []
 
 -- ---- linked ids
 
-abbrev pub is_linked : Number → Bool
-is_linked Absent = false
-is_linked (Of i) = true
+abbrev pub is_linked : Option ℕ → Bool
+is_linked None = false
+is_linked (Some i) = true
 
-abbrev pub linked_to : Number → ℕ
-linked_to Absent = 0
-linked_to (Of i) = i
+abbrev pub linked_to : Option ℕ → ℕ
+linked_to None = 0
+linked_to (Some i) = i
 
 -- ---- values and APDUs
 
 -- what a value is, which should be one well-formed element or none, with so many levels left: refusals 9 and 21
 unfoldable pub value_finding : ℕ → Option (List ℕ) → Finding
-value_finding d none = One
-value_finding d (some v) = finding_in d v
+value_finding d None = One
+value_finding d (Some v) = finding_in d v
 
 -- one well-formed element, or none
 unfoldable pub value_well : ℕ → Option (List ℕ) → Bool
-value_well d none = true
-value_well d (some v) = well_formed d v
+value_well d None = true
+value_well d (Some v) = well_formed d v
 
 -- how many levels down a value stands: directly in an Invoke or an Error, and in 30 in a Result
 abbrev pub in_apdu : ℕ

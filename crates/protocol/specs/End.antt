@@ -23,7 +23,7 @@ abbrev pub EachFit : List ℕ → Held → List Call → Type 0
 EachFit T s [] = Unit {0}
 EachFit T s (c ∷ l) = Fit T s c × EachFit T (held_after s (perform T s c)) l
 
--- 'call after call from a fresh state': with one valid table, each call of any list is made on a sound state that the table covers, so that
+-- call after call from a fresh state: with one valid table, each call of any list is made on a sound state that the table covers, so that
 -- 19 and 1 are never given
 abbrev pub OneEnd : Type 0
 OneEnd = (T : List ℕ) → valid T ≡ true → (l : List Call) → EachFit T fresh_held l

@@ -1,4 +1,4 @@
--- What is to be believed of the protocol: the six calls, the marked examples, the run of one end, the two ends with the book, and demand 3.
+-- What is to be believed of the protocol: the six calls, the marked examples, the run of one end, the two ends with the book, and that what is shown was given.
 pub mod Call
 pub mod Check
 pub mod Service
@@ -8,4 +8,4 @@ pub mod Reading
 pub mod Marked
 pub mod End
 pub mod Book
-pub mod Demand3
+pub mod ShownWasGiven

@@ -1,6 +1,5 @@
--- The six calls as ordered checks and what is answered when all pass: document 01, 'Receiving' and 'Requests, in order of check', with document 02's 21 and 22 and its Seven.
-use Rattle.std.specs.Prelude.{ℕ, Bool, cond, not, ◌&&◌, ◌||◌, List, [], ◌∷◌, ◌++◌, length, eqb, ltb}
-use Rattle.std.proofs.Math.Option.{none}
+-- The six calls as ordered checks and what is answered when all pass: 'Receiving, in order of check' and 'Requests, in order of check'.
+use Rattle.std.specs.Prelude.{ℕ, Bool, cond, not, ◌&&◌, ◌||◌, List, [], ◌∷◌, ◌++◌, length, eqb, ltb, Some, None}
 use Rattle.codes.specs.declared.Code.{Code}
 use Rattle.records.specs.Limits.{octets, levels}
 use Rattle.records.specs.Records.{member}
@@ -11,7 +10,6 @@ use Rattle.optable.specs.Lookup.{operation_of, listed, argument_of, result_of, e
 use Rattle.optable.specs.Service.{service_of, answers_itself}
 use Rattle.optable.specs.Value.{value_right}
 use Rattle.ber.specs.Element.{is_more, is_fault}
-use Rattle.apdu.specs.declared.Number.TheVariants.{Of}
 use Rattle.apdu.specs.Parse.{parse}
 use Rattle.base.specs.Lists.{non_empty}
 use Rattle.apdu.specs.Encode.{encode_invoke, encode_result, encode_error, encode_reject}
@@ -28,7 +26,7 @@ is_user_problem p = eqb p 2 || (eqb p 3 || eqb p 4)
 abbrev pub result_apdu : Held → ℕ → List ℕ → List ℕ
 result_apdu s i v = encode_result i (code_in (peer_records s) i) (non_empty v)
 
--- ---- the checks of each call behind 19 and 1, in document 01's order, 21 directly after 9 and 22 directly after 5
+-- ---- the checks of each call behind 19 and 1, in order, 21 directly after 9 and 22 directly after 5
 
 unfoldable pub later_checks : List ℕ → Held → Call → List Check
 -- Receive: 19, 1, 3, 2, the room being what the table needs
@@ -73,7 +71,7 @@ later_checks T s (error i e v room) =
 later_checks T s (reject i p room) =
     (16 ⇐ not (is_user_problem p))
     ∷ (11 ⇐ not (member i (peer_records s)))
-    ∷ (2 ⇐ too_short room (encode_reject (Of i) 0x81 p))
+    ∷ (2 ⇐ too_short room (encode_reject (Some i) 0x81 p))
     ∷ []
 -- Forget: 19, 1, 11, 12; an own record, or a peer record whose class is neither 1 nor 2
 later_checks T s (forget own i) = (11 ⇐ not (member i (own_records s))) ∷ []
@@ -103,12 +101,12 @@ answering T s i x = keep_answer (keeps_answers T (code_in (peer_records s) i)) (
 -- a user reject retires its peer record; an own id that is forgotten rests
 unfoldable pub done : List ℕ → Held → Call → Answer
 done T s (receive x room) = receive_apdu T s x (parse x)
-done T s (invoke i c l v room) = accepted none (with_own T s i c) (encode_invoke i l c (non_empty v) ∷ [])
-done T s (result i v room) = accepted none (answering T s i (result_apdu s i v)) (result_apdu s i v ∷ [])
-done T s (error i e v room) = accepted none (answering T s i (encode_error i e (non_empty v))) (encode_error i e (non_empty v) ∷ [])
-done T s (reject i p room) = accepted none (without_peer s i) (encode_reject (Of i) 0x81 p ∷ [])
-done T s (forget own i) = accepted none (in_state s (forget_own s.state (record { 0 = i }))) []
-done T s (forget peer i) = accepted none (without_peer s i) []
+done T s (invoke i c l v room) = accepted None (with_own T s i c) (encode_invoke i l c (non_empty v) ∷ [])
+done T s (result i v room) = accepted None (answering T s i (result_apdu s i v)) (result_apdu s i v ∷ [])
+done T s (error i e v room) = accepted None (answering T s i (encode_error i e (non_empty v))) (encode_error i e (non_empty v) ∷ [])
+done T s (reject i p room) = accepted None (without_peer s i) (encode_reject (Some i) 0x81 p ∷ [])
+done T s (forget own i) = accepted None (in_state s (forget_own s.state (record { 0 = i }))) []
+done T s (forget peer i) = accepted None (without_peer s i) []
 
 unfoldable pub perform : List ℕ → Held → Call → Answer
 perform T s c = answer (checks T s c) (done T s c)

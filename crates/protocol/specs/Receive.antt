@@ -1,6 +1,5 @@
--- Receiving, in order of check, behind 19, 1, 3 and 2: document 01, 'Receiving, in order of check', steps 1 to 5; document 02, Seven.
-use Rattle.std.specs.Prelude.{ℕ, Bool, false, cond, not, ◌&&◌, List, [], ◌∷◌, get_or, eqb}
-use Rattle.std.proofs.Math.Option.{Option, some, none}
+-- Receiving, in order of check, behind 19, 1, 3 and 2: 'Receiving, in order of check', and 'Probe and acknowledge'.
+use Rattle.std.specs.Prelude.{ℕ, Bool, false, cond, not, ◌&&◌, List, [], ◌∷◌, get_or, eqb, Option, Some, None}
 use Rattle.codes.specs.declared.Code.{Code}
 use Rattle.codes.specs.declared.Code.TheVariants.{Local}
 use Rattle.codes.specs.Code.{same_code}
@@ -12,10 +11,6 @@ use Rattle.optable.specs.Value.{value_right}
 use Rattle.optable.specs.declared.Service.{Service}
 use Rattle.optable.specs.declared.Service.TheVariants.{Probe, Acknowledge, Ordinary}
 use Rattle.optable.specs.Service.{service_of, answers_itself}
-use Rattle.apdu.specs.declared.Number.{Number}
-use Rattle.apdu.specs.declared.Number.TheVariants.{Of, Absent}
-use Rattle.apdu.specs.declared.CodeField.{CodeField}
-use Rattle.apdu.specs.declared.CodeField.TheVariants.{Is, Other}
 use Rattle.apdu.specs.Field.{Part, octets_of}
 use Rattle.apdu.specs.Parse.{CodedValue, body_value, Apdu, badly_structured, unrecognized, mistyped, invoke, result, error, reject}
 use Rattle.protocol.specs.Call.{Indication, invoked, resulted, erred, rejected_u, rejected_p, Refusal, plain, rejecting, Answer, accepted, refused}
@@ -23,39 +18,39 @@ use Rattle.protocol.specs.Check.{Check, answer, own_records, peer_records, code_
 use Rattle.protocol.specs.Service.{about, inside_right, probed, acknowledged}
 
 -- a code that is none of the table's counts as 0 where it is not asked for
-abbrev pub field_code : CodeField → Code
-field_code (Is c) = c
-field_code Other = Local 0
+abbrev pub field_code : Option Code → Code
+field_code (Some c) = c
+field_code None = Local 0
 
-abbrev pub is_operation : List ℕ → CodeField → Bool
-is_operation T (Is c) = listed (operation_of T c)
-is_operation T Other = false
+abbrev pub is_operation : List ℕ → Option Code → Bool
+is_operation T (Some c) = listed (operation_of T c)
+is_operation T None = false
 
-abbrev pub is_error : List ℕ → CodeField → Bool
-is_error T (Is e) = known (error_of T e)
-is_error T Other = false
+abbrev pub is_error : List ℕ → Option Code → Bool
+is_error T (Some e) = known (error_of T e)
+is_error T None = false
 
-abbrev pub is_code_of : CodeField → Code → Bool
-is_code_of (Is c) d = same_code c d
-is_code_of Other d = false
+abbrev pub is_code_of : Option Code → Code → Bool
+is_code_of (Some c) d = same_code c d
+is_code_of None d = false
 
 -- a code is present and is not the record's
 abbrev pub other_code : Option CodedValue → Code → Bool
-other_code none d = false
-other_code (some b) d = not (is_code_of b.code d)
+other_code None d = false
+other_code (Some b) d = not (is_code_of b.code d)
 
 -- a problem of a kind with the received id
 abbrev pub problem : ℕ → ℕ → ℕ → Bool → Check
-problem kind i p b = record { why = rejecting (Of i) kind p; fails = b }
+problem kind i p b = record { why = rejecting (Some i) kind p; fails = b }
 
 -- ---- steps 1 and 2: a general problem, or 17 if the first octet is A4
 
-unfoldable pub fault : List ℕ → ℕ → Number → Refusal
+unfoldable pub fault : List ℕ → ℕ → Option ℕ → Refusal
 fault x p i = cond (eqb (get_or x 0 0) 0xA4) (plain 17) (rejecting i 0x80 p)
 
 -- ---- step 3: Invoke
 
-unfoldable pub invoke_checks : List ℕ → Held → ℕ → Number → CodeField → Option Part → List Check
+unfoldable pub invoke_checks : List ℕ → Held → ℕ → Option ℕ → Option Code → Option Part → List Check
 invoke_checks T s i l c v =
     -- duplicateInvocation: id among peer records
     problem 0x81 i 0 (member i (peer_records s))
@@ -78,11 +73,11 @@ abbrev pub with_peer : List ℕ → Held → ℕ → Code → Held
 with_peer T s i c = cond (is_silent T c) s (in_state s (add_peer s.state (record { 0 = i }) c))
 
 -- probe and acknowledge are answered and not indicated; any other accepted invoke drops the kept answer of its id
-unfoldable pub invoke_done : List ℕ → Held → ℕ → Number → Code → Option Part → Service → Answer
-invoke_done T s i l c v Probe = accepted none s (probed s i (linked_to (about Probe (octets_of v))))
+unfoldable pub invoke_done : List ℕ → Held → ℕ → Option ℕ → Code → Option Part → Service → Answer
+invoke_done T s i l c v Probe = accepted None s (probed s i (linked_to (about Probe (octets_of v))))
 invoke_done T s i l c v Acknowledge =
-    accepted none (drop_answer s (record { 0 = linked_to (about Acknowledge (octets_of v)) })) (acknowledged s i (linked_to (about Acknowledge (octets_of v))))
-invoke_done T s i l c v Ordinary = accepted (some (invoked i l c v)) (drop_answer (with_peer T s i c) (record { 0 = i })) []
+    accepted None (drop_answer s (record { 0 = linked_to (about Acknowledge (octets_of v)) })) (acknowledged s i (linked_to (about Acknowledge (octets_of v))))
+invoke_done T s i l c v Ordinary = accepted (Some (invoked i l c v)) (drop_answer (with_peer T s i c) (record { 0 = i })) []
 
 -- an own record is retired
 abbrev pub without_own : Held → ℕ → Held
@@ -104,7 +99,7 @@ result_checks T s i b =
 
 -- ---- step 5: Error
 
-unfoldable pub error_checks : List ℕ → Held → ℕ → CodeField → Option Part → List Check
+unfoldable pub error_checks : List ℕ → Held → ℕ → Option Code → Option Part → List Check
 error_checks T s i e v =
     -- unrecognizedInvocation: no own record
     problem 0x83 i 0 (not (member i (own_records s)))
@@ -121,25 +116,25 @@ error_checks T s i e v =
 -- ---- Reject
 
 -- an invoke problem retires the own record of its id if there is one; other Rejects change no record
-abbrev pub retired_by : Held → Number → ℕ → Held
-retired_by s Absent kind = s
-retired_by s (Of i) kind = cond (eqb kind 0x81) (without_own s i) s
+abbrev pub retired_by : Held → Option ℕ → ℕ → Held
+retired_by s None kind = s
+retired_by s (Some i) kind = cond (eqb kind 0x81) (without_own s i) s
 
 -- general ones are indicated as RO-REJECT-P, others as RO-REJECT-U
-abbrev pub rejection : Number → ℕ → ℕ → Indication
-rejection Absent kind p = rejected_p Absent p
-rejection (Of i) kind p = cond (eqb kind 0x80) (rejected_p (Of i) p) (rejected_u i kind p)
+abbrev pub rejection : Option ℕ → ℕ → ℕ → Indication
+rejection None kind p = rejected_p None p
+rejection (Some i) kind p = cond (eqb kind 0x80) (rejected_p (Some i) p) (rejected_u i kind p)
 
 -- ---- by kind; an accepted result or error retires exactly the own record of its id
 
 unfoldable pub receive_apdu : List ℕ → Held → List ℕ → Apdu → Answer
-receive_apdu T s x (badly_structured p) = refused (fault x 2 Absent)
-receive_apdu T s x unrecognized = refused (fault x 0 Absent)
+receive_apdu T s x (badly_structured p) = refused (fault x 2 None)
+receive_apdu T s x unrecognized = refused (fault x 0 None)
 receive_apdu T s x (mistyped i) = refused (fault x 1 i)
 receive_apdu T s x (invoke i l c v) =
     answer (invoke_checks T s i l c v) (invoke_done T s i l (field_code c) v (service_of (field_code c)))
 receive_apdu T s x (result i b) =
-    answer (result_checks T s i b) (accepted (some (resulted i b (code_in (own_records s) i))) (without_own s i) [])
+    answer (result_checks T s i b) (accepted (Some (resulted i b (code_in (own_records s) i))) (without_own s i) [])
 receive_apdu T s x (error i e v) =
-    answer (error_checks T s i e v) (accepted (some (erred i (field_code e) v (code_in (own_records s) i))) (without_own s i) [])
-receive_apdu T s x (reject i kind p) = accepted (some (rejection i kind p)) (retired_by s i kind) []
+    answer (error_checks T s i e v) (accepted (Some (erred i (field_code e) v (code_in (own_records s) i))) (without_own s i) [])
+receive_apdu T s x (reject i kind p) = accepted (Some (rejection i kind p)) (retired_by s i kind) []

@@ -1,6 +1,5 @@
--- What receive answers itself: document 02, Seven. The id that an argument is about, the results, and which answers are kept.
-use Rattle.std.specs.Prelude.{ℕ, Bool, true, cond, not, ◌&&◌, List, [], ◌∷◌}
-use Rattle.std.proofs.Math.Option.{Option, some, none}
+-- What receive answers itself: 'Probe and acknowledge'. The id that an argument is about, the results, and which answers are kept.
+use Rattle.std.specs.Prelude.{ℕ, Bool, true, cond, not, ◌&&◌, List, [], ◌∷◌, Option, Some, None}
 use Rattle.codes.specs.declared.Code.{Code}
 use Rattle.records.specs.Held.{Held, kept_answers}
 use Rattle.records.specs.Kept.{is_kept, kept_apdu}
@@ -9,8 +8,6 @@ use Rattle.optable.specs.declared.Service.{Service}
 use Rattle.optable.specs.declared.Service.TheVariants.{Probe, Acknowledge, Ordinary}
 use Rattle.optable.specs.Service.{probe_code, acknowledge_code, service_of, answers_itself}
 use Rattle.optable.specs.Lookup.{idempotent_of}
-use Rattle.apdu.specs.declared.Number.{Number}
-use Rattle.apdu.specs.declared.Number.TheVariants.{Absent}
 use Rattle.apdu.specs.Inside.{inside, id_in}
 use Rattle.apdu.specs.Encode.{encode_result}
 use Rattle.protocol.specs.Check.{peer_records, is_linked}
@@ -18,15 +15,15 @@ use Rattle.protocol.specs.Check.{peer_records, is_linked}
 -- ---- arguments
 
 -- probe carries 30 holding A0 holding the id, acknowledge the id
-unfoldable pub about_in : Service → List ℕ → Number
+unfoldable pub about_in : Service → List ℕ → Option ℕ
 about_in Probe v = id_in (inside 0xA0 (inside 0x30 v))
 about_in Acknowledge v = id_in v
-about_in Ordinary v = Absent
+about_in Ordinary v = None
 
 -- the id that the argument is about
-unfoldable pub about : Service → Option (List ℕ) → Number
-about q none = Absent
-about q (some v) = about_in q v
+unfoldable pub about : Service → Option (List ℕ) → Option ℕ
+about q None = None
+about q (Some v) = about_in q v
 
 -- the inside of an argument is right: anything else than an id where one must stand is wrong
 abbrev pub inside_right : Service → Option (List ℕ) → Bool
@@ -42,7 +39,7 @@ enumerated n = 0x0A ∷ 0x01 ∷ n ∷ []
 
 -- the result that receive writes
 unfoldable pub reply : ℕ → Code → ℕ → List ℕ
-reply i c n = encode_result i c (some (enumerated n))
+reply i c n = encode_result i c (Some (enumerated n))
 
 -- to a probe i about j: running 0 for a live peer record, finished 1 for a kept answer and behind it the kept APDU, else unknown 2
 unfoldable pub probed : Held → ℕ → ℕ → List (List ℕ)

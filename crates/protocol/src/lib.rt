@@ -1,15 +1,17 @@
-// What the six calls answer: document 01's indications and refusals. The calls' definitions stand in specs/, and what holds of them are the
-// contracts of the three functions at the end.
+// What the six calls answer: indications and refusals. The calls' definitions stand in specs/, and what holds of them are the contracts of the
+// three functions at the end.
 #![tactic(auto)]
 
 ghost use Rattle.std.specs.Prelude.{◌≡◌};
 ghost use Rattle.protocol.specs.Call.{refusal_number};
-ghost use Rattle.protocol.specs.Demand3.{Demand3};
+ghost use Rattle.protocol.specs.ShownWasGiven.{ShownWasGiven};
 ghost use Rattle.protocol.specs.End.{OneEnd};
 ghost use Rattle.protocol.specs.Marked.{MarkedHold};
-ghost use Rattle.protocol.specs.Reading.{read_refusal, refusal_problem};
+ghost use Rattle.protocol.specs.Reading.{read_refusal, problem_numbers, refusal_problem};
 
-use apdu::{Body, Number, OwnLink, Value};
+pub use apdu::problem::Problem;
+use apdu::problem::ProblemKind;
+use apdu::{Body, Span};
 use codes::Code;
 use records::{OwnId, PeerId, State};
 
@@ -20,24 +22,24 @@ pub enum Invocation {
     Peer(PeerId),
 }
 
-// A received APDU that was accepted; a value is a place in the lent octets.
+// A received APDU that was accepted; a value is a place in the lent octets, and the number of a problem stays one, as Parsed hands it on.
 #[derive(Clone, Copy)]
 pub enum Indication {
     Invoke {
         id: PeerId,
-        linked: OwnLink,
+        linked: Option<OwnId>,
         code: Code,
-        argument: Value,
+        argument: Option<Span>,
     },
     Result {
         id: OwnId,
-        body: Body,
+        body: Option<Body>,
         operation: Code,
     },
     Error {
         id: OwnId,
         code: Code,
-        parameter: Value,
+        parameter: Option<Span>,
         operation: Code,
     },
     // RO-REJECT-U of an invocation that this end made.
@@ -57,13 +59,13 @@ pub enum Indication {
     },
     // RO-REJECT-P: the id has no side.
     GeneralReject {
-        id: Number,
+        id: Option<u32>,
         problem: u8,
     },
 }
 
-// Why a call was refused, in the order of the papers' numbers: 1 to 19, 21 and 22.
-#[derive(Clone, Copy)]
+// Why a call was refused, in the order of 'The table of refusals': 1 to 19, 21 and 22.
+#[derive(Clone, Copy, Debug, PartialEq, Eq)]
 pub enum Refusal {
     InvalidTable,
     ShortOutput,
@@ -82,8 +84,12 @@ pub enum Refusal {
     LargeApdu,
     WrongProblem,
     UnacceptableReject,
-    // The Reject with these fields stands at the front of the output.
-    Rejected { id: Number, kind: u8, problem: u8 },
+    // The Reject with these fields stands at the front of the output; the number of its problem is as `write_reject` takes it.
+    Rejected {
+        id: Option<u32>,
+        kind: ProblemKind,
+        problem: u8,
+    },
     UnsoundState,
     // One well-formed element, and then more octets.
     TrailingOctets,
@@ -91,15 +97,8 @@ pub enum Refusal {
     IdResting,
 }
 
-// A problem of a Reject: its kind, 80 general, 81 invoke, 82 result or 83 error (hexadecimal), and its number within the kind.
-#[derive(Clone, Copy)]
-pub struct Problem {
-    pub kind: u8,
-    pub number: u8,
-}
-
 impl Refusal {
-    // The papers' number: 1 to 19, 21 or 22.
+    // Its number in 'The table of refusals', which programs show: 1 to 19, 21 or 22.
     #[tactic(auto, unfolding(crate::specs::Reading::read_refusal))]
     pub fn number(self) -> u8
         ensures { result ≡ refusal_number (read_refusal self) }
@@ -133,63 +132,50 @@ impl Refusal {
         }
     }
 
-    // The problem that the Reject of an 18 carries; another refusal has 0, 0.
+    // The problem that the Reject of an 18 carries; another refusal has none.
     #[tactic(auto, unfolding(crate::specs::Reading::read_refusal))]
-    pub fn problem(self) -> Problem
-        ensures { result ≡ refusal_problem (read_refusal self) }
+    pub fn problem(self) -> Option<Problem>
+        ensures { problem_numbers result ≡ refusal_problem (read_refusal self) }
     {
         match self {
             Refusal::Rejected {
                 id: _,
                 kind,
                 problem,
-            } => Problem {
+            } => Some(Problem {
                 kind,
                 number: problem,
-            },
-            _ => Problem { kind: 0, number: 0 },
+            }),
+            _ => None,
         }
     }
 }
 
-#[derive(Clone, Copy)]
-pub enum Reception {
-    Indicated(Indication),
-    // A probe or an acknowledge, which nobody is told of: what it is answered stands at the front of the output.
-    Answered,
-    Refused(Refusal),
-}
-
-// What receive answers: the state then, where the received octets are at fault (for a general problem 2 or a 17, else 0), the indication or
-// refusal, and how many octets of the output were written.
+// What receive answers: the state then, where the received octets are at fault (for a general problem 2 or a 17, else 0, as `place_named` has it), the indication or
+// refusal, and how many octets of the output were written. A probe or an acknowledge is accepted without an indication: nobody is told of it, and
+// what it is answered stands at the front of the output.
 #[derive(Clone, Copy)]
 pub struct Received {
     pub state: State,
     pub place: usize,
-    pub reception: Reception,
+    pub reception: Result<Option<Indication>, Refusal>,
     pub written: usize,
 }
 
-#[derive(Clone, Copy)]
-pub enum Outcome {
-    Accepted,
-    Refused(Refusal),
-}
-
-// What a request or forget answers: the state then, where the value is at fault (for a 9 or a 21, else 0), and how many octets of the output
-// were written.
+// What a request or forget answers: the state then, where the value is at fault (for a 9 or a 21, else 0, as `place_named` has it), and how many octets of the output
+// were written. Received and Requested stay two: a generic answer would be no shorter, and would name reception and outcome alike.
 #[derive(Clone, Copy)]
 pub struct Requested {
     pub state: State,
     pub place: usize,
-    pub outcome: Outcome,
+    pub outcome: Result<(), Refusal>,
     pub written: usize,
 }
 
-// Of two valid tables, one of which extends the other, and of fair calls, as `Demand3` asks them: what the kiosk shows is what the controller gave,
+// Of two valid tables, one of which extends the other, and of fair calls, as `ShownWasGiven` asks them: what the kiosk shows is what the controller gave,
 // and is shown once, whatever the channel loses, repeats or reorders.
 pub fn shown_was_given()
-    ensures { Demand3 }
+    ensures { ShownWasGiven }
 {}
 
 // The marked examples are answered as they are marked.
@@ -198,6 +184,7 @@ pub fn marked_examples()
 {}
 
 // With one valid table each call of an end, from a fresh state on, is made on a sound state that the table covers: never a refusal 19 or 1.
+#[tactic(auto, using(crate::proofs::Fitting::one_end))]
 pub fn one_end_stays_sound()
     ensures { OneEnd }
 {}

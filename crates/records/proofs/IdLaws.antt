@@ -2,13 +2,23 @@
 use Prim.Native.Nat.{ℕ, zero, suc, ◌+◌, ◌-◌, ◌<◌}
 use native.Mathlib.Omega.{arith}
 use mathlib.Core.Path.{◌≡◌, refl, sym, ap, ◌∙◌}
-use mathlib.Core.Bool.{Bool, true, false, not, ◌&&◌, ◌||◌, false≢true}
+use mathlib.Core.Bool.{Bool, true, false, cond, not, ◌&&◌, ◌||◌, false≢true}
 use mathlib.Core.List.{List, [], ◌∷◌, ◌++◌}
 use lib.Dec.{eqb}
-use lib.ListN.{length, drop, replicate}
+use lib.ListN.{length, replicate}
 use borrow.Author.Tests.{eqb-true, eqb-false, eq-eqb, ne_eqb, not-true}
-use Rattle.base.proofs.Tests.{cond_elim, and_left, and_right, or_false_left, or_false_right}
+use Rattle.base.proofs.Tests.{and_left, and_right, or_false_left, or_false_right}
+use Rattle.std.specs.List.{list_all}
+use Rattle.records.specs.declared.Record.{Record}
+use Rattle.records.specs.declared.KeptPlace.{KeptPlace}
+use Rattle.records.specs.Records.{ids_of, member}
+use Rattle.records.specs.Kept.{place_ids}
 use Rattle.records.specs.Numbers.{among, each_once, leaving, none_among, all_zero}
+
+-- what leaves a filtered list where the test is true, and stays where it is false
+pub left_out : {A : Type 0} (P : List A → Type 0) (b : Bool) (x : A) (l : List A) → (b ≡ true → P l) → (b ≡ false → P (x ∷ l)) → P (cond (not b) (x ∷ l) l)
+left_out P true x l f g = f refl
+left_out P false x l f g = g refl
 
 pub never_both : (b : Bool) → b ≡ true → b ≡ false → ⊥
 never_both b p q = false≢true (sym q ∙ p)
@@ -53,20 +63,20 @@ pub among_leaving : (i j : ℕ) (l : List ℕ) → among i l ≡ false → among
 among_leaving i j [] h = refl
 among_leaving i j (x ∷ l) h =
     let rest = among_leaving i j l (or_false_right (eqb x i) (among i l) h) in
-    cond_elim (λ (m : List ℕ). among i m ≡ false) (eqb x j) (leaving j l) (x ∷ leaving j l) (λ _. rest)
+    left_out (λ (m : List ℕ). among i m ≡ false) (eqb x j) x (leaving j l) (λ _. rest)
     (λ _. rw (or_false_left (eqb x i) (among i l) h) rest)
 
 pub among_left : (i : ℕ) (l : List ℕ) → among i (leaving i l) ≡ false
 among_left i [] = refl
 among_left i (x ∷ l) =
     let rest = among_left i l in
-    cond_elim (λ (m : List ℕ). among i m ≡ false) (eqb x i) (leaving i l) (x ∷ leaving i l) (λ _. rest) (λ e. rw e rest)
+    left_out (λ (m : List ℕ). among i m ≡ false) (eqb x i) x (leaving i l) (λ _. rest) (λ e. rw e rest)
 
 pub once_leaving : (i : ℕ) (l : List ℕ) → each_once l ≡ true → each_once (leaving i l) ≡ true
 once_leaving i [] h = refl
 once_leaving i (x ∷ l) h =
     let rest = once_leaving i l (and_right (not (among x l)) (each_once l) h) in
-    cond_elim (λ (m : List ℕ). each_once m ≡ true) (eqb x i) (leaving i l) (x ∷ leaving i l) (λ _. rest)
+    left_out (λ (m : List ℕ). each_once m ≡ true) (eqb x i) x (leaving i l) (λ _. rest)
     (λ _. rw (among_leaving x i l (not-true (among x l) (and_left _ _ h))) rest)
 
 -- ---- two lists that share none
@@ -97,16 +107,23 @@ pub none_either_way : (k l : List ℕ) → none_among k l ≡ none_among l k
 none_either_way [] l = sym (none_of_none l)
 none_either_way (x ∷ k) l = ap (λ (b : Bool). not (among x l) && b) (none_either_way k l) ∙ sym (none_of_more l x k)
 
+-- none of these ids is a record's, where the records are looked for among them; and a place's likewise
+records_among : (k : List ℕ) (l : List Record) → list_all (λ r. not (among r.id k)) l ≡ none_among (ids_of l) k
+records_among k [] = refl
+records_among k (r ∷ l) = ap (λ (b : Bool). not (among r.id k) && b) (records_among k l)
+
+pub none_of_records : (k : List ℕ) (l : List Record) → list_all (λ r. not (among r.id k)) l ≡ none_among k (ids_of l)
+none_of_records k l = records_among k l ∙ none_either_way (ids_of l) k
+
+pub no_place_among : (l : List KeptPlace) (k : List Record) → list_all (λ p. not (member p.id k)) l ≡ none_among (place_ids l) (ids_of k)
+no_place_among [] k = refl
+no_place_among (p ∷ l) k = ap (λ (b : Bool). not (member p.id k) && b) (no_place_among l k)
+
 -- ---- unused places
 
 pub zero_replicate : (k : ℕ) → all_zero (replicate k 0) ≡ true
 zero_replicate zero = refl
 zero_replicate (suc k) = zero_replicate k
-
-pub zero_behind : (n k : ℕ) → all_zero (drop n (replicate k 0)) ≡ true
-zero_behind zero k = zero_replicate k
-zero_behind (suc n) zero = refl
-zero_behind (suc n) (suc k) = zero_behind n k
 
 pub zero_is_replicate : (l : List ℕ) → all_zero l ≡ true → l ≡ replicate (length l) 0
 zero_is_replicate [] h = refl

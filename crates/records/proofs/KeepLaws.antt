@@ -5,22 +5,23 @@ use mathlib.Core.Path.{◌≡◌, refl, sym, ap, ◌∙◌}
 use mathlib.Core.Bool.{Bool, true, false, cond, ◌&&◌}
 use mathlib.Core.List.{List, [], ◌∷◌, ◌++◌, append_assoc}
 use lib.Dec.{leb}
-use lib.ListN.{length, take, drop, set, length-append, length-replicate}
+use lib.ListN.{length, take, drop, set, replicate, length-append, length-replicate}
 use lib.Seq.{set-append_seam}
 use borrow.Author.Tests.{eq-eqb, leb-true, le-leb}
 use Rattle.ber.specs.Output.{placed}
 use Rattle.records.specs.declared.Record.{Record}
+use Rattle.records.specs.declared.KeptPlace.{KeptPlace}
 use Rattle.records.specs.Limits.{answers, answer_octets}
-use Rattle.records.specs.Kept.{KeptAnswer, answer_ids, with_room, keeping, answer_lengths, pack_kept, blocks, pack_store}
-use Rattle.records.specs.Steps.{closed_at, kept_closed, kept_put, fits, kept_room, store_room, kept_next, store_next}
-use Rattle.records.proofs.KeptLaws.{answer_ids_append, answer_ids_length, in_room, room_length, Short, SoundKept}
-use Rattle.records.proofs.DropLaws.{zeros, zeros_more, answer_lengths_append, blocks_append, kept_closed_lem, store_closed}
-use Rattle.records.proofs.StoreLaws.{answer_lengths_length, blocks_length, store_length, take_to, drop_to}
+use Rattle.records.specs.Kept.{KeptAnswer, place_for, no_answer, with_room, keeping, pack_kept, blocks, pack_store}
+use Rattle.records.specs.Steps.{kept_closed, store_closed, kept_put, fits, kept_room, store_room, kept_next, store_next}
+use Rattle.records.proofs.KeptLaws.{in_room, room_length, Short, SoundKept}
+use Rattle.records.proofs.DropLaws.{more_of, places_append, blocks_append, kept_closed_lem, store_closed_lem}
+use Rattle.records.proofs.StoreLaws.{places_for, places_length, packed_count, blocks_length, store_length, take_to, drop_to}
+
+abbrev zeros : ℕ → List ℕ
+zeros n = replicate n 0
 
 -- ---- an answer goes last
-
-set_next : (l : List ℕ) (n m x : ℕ) → length l ≡ n → set (l ++ zeros (suc m)) n x ≡ (l ++ x ∷ []) ++ zeros m
-set_next l n m x e = ap (λ (j : ℕ). set (l ++ zeros (suc m)) j x) (sym e) ∙ set-append_seam l 0 (zeros m) x ∙ sym (append_assoc l (x ∷ []) (zeros m))
 
 module _ (l : List KeptAnswer) (room : suc (length l) ≤ answers) (i : ℕ) (x : List ℕ) where
   one_more_lem : answers - length l ≡ suc (answers - length (l ++ record { id = i; apdu = x } ∷ []))
@@ -32,13 +33,13 @@ module _ (l : List KeptAnswer) (room : suc (length l) ≤ answers) (i : ℕ) (x 
       let k : KeptAnswer = record { id = i; apdu = x } in
       let m = answers - length (l ++ k ∷ []) in
       let count : length l + 1 ≡ length (l ++ k ∷ []) = omega (arith, length-append l (k ∷ [])) in
-      let ids : set (answer_ids l ++ zeros (answers - length l)) (length l) i ≡ answer_ids (l ++ k ∷ []) ++ zeros m =
-      ap (λ (j : ℕ). set (answer_ids l ++ zeros j) (length l) i) one_more_lem
-      ∙ set_next (answer_ids l) (length l) m i (answer_ids_length l) ∙ ap (λ (y : List ℕ). y ++ zeros m) (sym (answer_ids_append l (k ∷ []))) in
-      let lengths : set (answer_lengths l ++ zeros (answers - length l)) (length l) (length x) ≡ answer_lengths (l ++ k ∷ []) ++ zeros m =
-      ap (λ (j : ℕ). set (answer_lengths l ++ zeros j) (length l) (length x)) one_more_lem
-      ∙ set_next (answer_lengths l) (length l) m (length x) (answer_lengths_length l) ∙ ap (λ (y : List ℕ). y ++ zeros m) (sym (answer_lengths_append l (k ∷ []))) in
-      λ t. record { count = count t; ids = ids t; lengths = lengths t }
+      let places : set (places_for l ++ replicate (answers - length l) no_answer) (length l) (place_for k) ≡ places_for (l ++ k ∷ []) ++ replicate m no_answer =
+      ap (λ (j : ℕ). set (places_for l ++ replicate j no_answer) (length l) (place_for k)) one_more_lem
+      ∙ ap (λ (j : ℕ). set (places_for l ++ replicate (suc m) no_answer) j (place_for k)) (sym (places_length l))
+      ∙ set-append_seam (places_for l) no_answer (replicate m no_answer) (place_for k)
+      ∙ sym (append_assoc (places_for l) (place_for k ∷ []) (replicate m no_answer))
+      ∙ ap (λ (y : List KeptPlace). y ++ replicate m no_answer) (sym (places_append l (k ∷ []))) in
+      λ t. record { count = count t; places = places t }
 
   pub store_put : Short l → length x ≤ answer_octets → placed (pack_store l) (length l * answer_octets) x ≡ pack_store (l ++ record { id = i; apdu = x } ∷ [])
   unfolding pack_store placed
@@ -51,7 +52,7 @@ module _ (l : List KeptAnswer) (room : suc (length l) ≤ answers) (i : ℕ) (x 
       let sum : length x + (pad + m) ≡ answer_octets * (answers - length l) = omega (arith, one_more_lem) in
       let rest = zeros (length x) ++ (zeros pad ++ zeros m) in
       let split : zeros (answer_octets * (answers - length l)) ≡ rest =
-      sym (zeros_more (length x) (pad + m) (answer_octets * (answers - length l)) sum) ∙ ap (λ (y : List ℕ). zeros (length x) ++ y) (sym (zeros_more pad m (pad + m) refl)) in
+      sym (more_of 0 (length x) (pad + m) (answer_octets * (answers - length l)) sum) ∙ ap (λ (y : List ℕ). zeros (length x) ++ y) (sym (more_of 0 pad m (pad + m) refl)) in
       let size : length (blocks l ++ rest) ≡ answer_octets * length l + answer_octets * (answers - length l) =
       ap (λ (y : List ℕ). length (blocks l ++ y)) (sym split) ∙ length-append (blocks l) (zeros (answer_octets * (answers - length l))) ∙ (λ t. blocks_length l short t + length-replicate {A = ℕ} (answer_octets * (answers - length l)) 0 t) in
       let front : take n (blocks l ++ rest) ≡ blocks l = take_to n (blocks l) rest at in
@@ -70,19 +71,15 @@ module _ {peers : List Record} {l : List KeptAnswer} (h : SoundKept peers l) whe
   room = go (leb answers (length l)) refl
     where
       first : (m : List KeptAnswer) → answers ≤ length m → length m ≤ answers → Short m
-          → (kept_closed (pack_kept m) 0 ≡ pack_kept (drop 1 m)) × (closed_at answer_octets 0 (pack_store m) ≡ pack_store (drop 1 m))
+          → (kept_closed (pack_kept m) 0 ≡ pack_kept (drop 1 m)) × (store_closed (pack_store m) 0 ≡ pack_store (drop 1 m))
       first [] full few short = absurd (let e : ⊥ = omega arith in e)
-      first (k ∷ m) full few short = (kept_closed_lem [] k m few, store_closed [] k m few short)
+      first (k ∷ m) full few short = (kept_closed_lem [] k m few, store_closed_lem [] k m few short)
 
       go : (b : Bool) → leb answers (length l) ≡ b
           → (cond b (kept_closed (pack_kept l) 0) (pack_kept l) ≡ pack_kept (cond b (drop 1 l) l))
-          × (cond b (closed_at answer_octets 0 (pack_store l)) (pack_store l) ≡ pack_store (cond b (drop 1 l) l))
+          × (cond b (store_closed (pack_store l) 0) (pack_store l) ≡ pack_store (cond b (drop 1 l) l))
       go true e = first l (leb-true answers (length l) e) h.few h.short
       go false e = (refl, refl)
-
-  packed_count : (m : List KeptAnswer) → (pack_kept m).count ≡ length m
-  unfolding pack_kept
-  packed_count m = refl
 
   can_keep : (x : List ℕ) → fits (pack_kept l) (pack_store l) x ≡ leb (length x) answer_octets
   can_keep x = rw (eq-eqb _ _ (store_length l h.short h.few), packed_count l, le-leb _ _ h.few) (go (leb (length x) answer_octets))

@@ -20,7 +20,7 @@ use Rattle.records.specs.Limits.{answers, answer_octets}
 use Rattle.records.specs.Numbers.{each_once, leaving}
 use Rattle.records.specs.Records.{member, without}
 use Rattle.records.specs.Kept.{KeptAnswer, answer_ids, is_kept, kept_apdu, kept_without, with_room, keeping}
-use Rattle.records.proofs.IdLaws.{never_both, once_added, among_left, once_leaving}
+use Rattle.records.proofs.IdLaws.{left_out, never_both, once_added, among_left, once_leaving}
 use Rattle.records.proofs.Laws.{member_added, member_without}
 
 -- ---- ids and answers
@@ -29,16 +29,12 @@ pub answer_ids_append : (a b : List KeptAnswer) → answer_ids (a ++ b) ≡ answ
 answer_ids_append [] b = refl
 answer_ids_append (k ∷ a) b = ap (λ (x : List ℕ). k.id ∷ x) (answer_ids_append a b)
 
-pub answer_ids_length : (l : List KeptAnswer) → length (answer_ids l) ≡ length l
-answer_ids_length [] = refl
-answer_ids_length (k ∷ l) = ap suc (answer_ids_length l)
-
 answer_ids_without : (i : ℕ) (l : List KeptAnswer) → answer_ids (kept_without i l) ≡ leaving i (answer_ids l)
 answer_ids_without i [] = refl
 answer_ids_without i (k ∷ l) = go (eqb k.id i) (answer_ids_without i l)
   where
     go : (b : Bool) → answer_ids (kept_without i l) ≡ leaving i (answer_ids l)
-        → answer_ids (cond b (kept_without i l) (k ∷ kept_without i l)) ≡ cond b (leaving i (answer_ids l)) (k.id ∷ leaving i (answer_ids l))
+        → answer_ids (cond (not b) (k ∷ kept_without i l) (kept_without i l)) ≡ cond (not b) (k.id ∷ leaving i (answer_ids l)) (leaving i (answer_ids l))
     go true ih = ih
     go false ih = rw ih
 
@@ -71,7 +67,7 @@ in_kept_without {k} i (x ∷ l) m = go (eqb x.id i) (in_kept_without i l) m
     cons ih (inl e) = here e
     cons ih (inr m) = there (ih m)
 
-    go : (b : Bool) → (In k (kept_without i l) → In k l) → In k (cond b (kept_without i l) (x ∷ kept_without i l)) → In k (x ∷ l)
+    go : (b : Bool) → (In k (kept_without i l) → In k l) → In k (cond (not b) (x ∷ kept_without i l) (kept_without i l)) → In k (x ∷ l)
     go true ih m = there (ih m)
     go false ih m = cons ih (in-cons m)
 
@@ -79,7 +75,7 @@ kept_shorter : (i : ℕ) (l : List KeptAnswer) → length (kept_without i l) ≤
 kept_shorter i [] = omega arith
 kept_shorter i (x ∷ l) =
     let rest = kept_shorter i l in
-    cond_elim (λ (m : List KeptAnswer). length m ≤ length (x ∷ l)) (eqb x.id i) (kept_without i l) (x ∷ kept_without i l) (λ _. omega arith) (λ _. omega arith)
+    left_out (λ (m : List KeptAnswer). length m ≤ length (x ∷ l)) (eqb x.id i) x (kept_without i l) (λ _. omega arith) (λ _. omega arith)
 
 -- ---- one is kept: the oldest of eight makes room
 

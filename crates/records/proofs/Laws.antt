@@ -7,19 +7,34 @@ use mathlib.Core.List.{List, [], ◌∷◌, ◌++◌}
 use borrow.Author.Tests.{eq-eqb, ne_eqb, eqb-true, not-true}
 use lib.Dec.{eqb}
 use lib.ListN.{length}
-use Rattle.base.proofs.Tests.{and_true, and_left, and_right, or_false_left, or_false_right, cond_false, cond_elim, cond_elim₂}
+use Rattle.base.proofs.Tests.{and_true, and_left, and_right, or_false_left, or_false_right}
 use Rattle.codes.specs.declared.Code.{Code}
 use Rattle.codes.specs.Code.{code_right}
 use Rattle.records.specs.declared.Record.{Record}
-use Rattle.records.specs.declared.Found.TheVariants.{Operation, Nothing}
+use Rattle.std.specs.Prelude.{Option, Some, None, find, ◌==◌}
+use Rattle.std.specs.Option.{option_map}
 use Rattle.records.specs.Numbers.{leaving}
 use Rattle.records.specs.Records.{lookup, ids_of, member, without, distinct, formed}
-use Rattle.records.proofs.IdLaws.{among_added, once_added, among_leaving, among_left, once_leaving}
+use Rattle.records.proofs.IdLaws.{left_out, among_added, once_added, among_leaving, among_left, once_leaving}
 
-operation_nothing : {k : Code} → Operation k ≡ Nothing → ⊥
-operation_nothing {k} e =
-    let z : ◌≡◌ {A = ℕ} 0 1 = cc in
-    omega arith
+some_none : {k : Code} → Some k ≡ None → ⊥
+some_none {k} e = cc
+
+-- what is found, by whether the first record has the id
+lookup_cases : (P : Option Code → Type 0) (n : ℕ) (r : Record) (l : List Record) → (eqb r.id n ≡ true → P (Some r.code)) → (eqb r.id n ≡ false → P (lookup n l)) → P (lookup n (r ∷ l))
+lookup_cases P n r l = go (eqb r.id n)
+  where
+    go : (b : Bool) → (b ≡ true → P (Some r.code)) → (b ≡ false → P (lookup n l)) → P (option_map (λ x. x.code) (cond b (Some r) (find (λ x. x.id == n) l)))
+    go true f g = f refl
+    go false f g = g refl
+
+-- what is found behind the same record
+lookup_head : (n : ℕ) (r : Record) (a b : List Record) → lookup n a ≡ lookup n b → lookup n (r ∷ a) ≡ lookup n (r ∷ b)
+lookup_head n r a b e = go (eqb r.id n)
+  where
+    go : (t : Bool) → option_map (λ x. x.code) (cond t (Some r) (find (λ x. x.id == n) a)) ≡ option_map (λ x. x.code) (cond t (Some r) (find (λ x. x.id == n) b))
+    go true = refl
+    go false = e
 
 -- ---- a record at the head
 
@@ -34,26 +49,26 @@ module _ (r : Record) (l : List Record) where
 
   -- where no id stands twice, the first record's stands once
   module _ (h : distinct (r ∷ l) ≡ true) where
-    head_once : member r.id l ≡ false
+    pub head_once : member r.id l ≡ false
     head_once = not-true (member r.id l) (and_left (not (member r.id l)) (distinct l) h)
 
-    tail_distinct : distinct l ≡ true
+    pub tail_distinct : distinct l ≡ true
     tail_distinct = and_right (not (member r.id l)) (distinct l) h
 
 -- ---- what is found
 
-pub nothing_is_absent : (n : ℕ) (l : List Record) → lookup n l ≡ Nothing → member n l ≡ false
+pub nothing_is_absent : (n : ℕ) (l : List Record) → lookup n l ≡ None → member n l ≡ false
 nothing_is_absent n [] h = refl
 nothing_is_absent n (r ∷ l) h =
-    cond_elim (λ f. f ≡ Nothing → member n (r ∷ l) ≡ false) (eqb r.id n) (Operation r.code) (lookup n l)
-    (λ _ g. absurd (operation_nothing g))
+    lookup_cases (λ f. f ≡ None → member n (r ∷ l) ≡ false) n r l
+    (λ _ g. absurd (some_none g))
     (λ e g. rw e (nothing_is_absent n l g))
     h
 
-pub found_is_member : (n : ℕ) (l : List Record) (k : Code) → lookup n l ≡ Operation k → member n l ≡ true
-found_is_member n [] k h = absurd (operation_nothing (sym h))
+pub found_is_member : (n : ℕ) (l : List Record) (k : Code) → lookup n l ≡ Some k → member n l ≡ true
+found_is_member n [] k h = absurd (some_none (sym h))
 found_is_member n (r ∷ l) k h =
-    cond_elim (λ f. f ≡ Operation k → member n (r ∷ l) ≡ true) (eqb r.id n) (Operation r.code) (lookup n l)
+    lookup_cases (λ f. f ≡ Some k → member n (r ∷ l) ≡ true) n r l
     (λ e g. rw e refl)
     (λ e g. rw e (found_is_member n l k g))
     h
@@ -75,25 +90,19 @@ formed_added [] r h g = and_true g refl
 formed_added (x ∷ l) r h g = and_true (and_left (code_right x.code) (formed l) h) (formed_added l r (and_right (code_right x.code) (formed l) h) g)
 
 -- validates `added`: the new record is found by its id
-pub lookup_added : (l : List Record) (r : Record) → member r.id l ≡ false → lookup r.id (l ++ r ∷ []) ≡ Operation r.code
+pub lookup_added : (l : List Record) (r : Record) → member r.id l ≡ false → lookup r.id (l ++ r ∷ []) ≡ Some r.code
 lookup_added [] r h = simp (eq-eqb r.id r.id refl)
 lookup_added (x ∷ l) r h = rw (head_other x l r.id h) (lookup_added l r (tail_absent x l r.id h))
 
 -- validates `added`: what is found of another id stays
 pub lookup_added_other : (n : ℕ) (l : List Record) (r : Record) → (r.id ≡ n → ⊥) → lookup n (l ++ r ∷ []) ≡ lookup n l
 lookup_added_other n [] r h = simp (ne_eqb _ _ h)
-lookup_added_other n (x ∷ l) r h = rw (lookup_added_other n l r h)
+lookup_added_other n (x ∷ l) r h = lookup_head n x (l ++ r ∷ []) l (lookup_added_other n l r h)
 
 -- ---- the record of an id taken out
 
 without_cases : (P : List Record → Type 0) (n : ℕ) (r : Record) (l : List Record) → (eqb r.id n ≡ true → P (without n l)) → (eqb r.id n ≡ false → P (r ∷ without n l)) → P (without n (r ∷ l))
-without_cases P n r l = cond_elim P (eqb r.id n) (without n l) (r ∷ without n l)
-
-pub without_append : (n : ℕ) (a b : List Record) → without n (a ++ b) ≡ without n a ++ without n b
-without_append n [] b = refl
-without_append n (r ∷ a) b =
-    rw (without_append n a b)
-    (cond_elim₂ (λ x y. x ≡ y ++ without n b) (eqb r.id n) _ _ _ _ (λ _. refl) (λ _. refl))
+without_cases P n r l = left_out P (eqb r.id n) r (without n l)
 
 pub without_shorter : (n : ℕ) (l : List Record) → length (without n l) ≤ length l
 without_shorter n [] = omega arith
@@ -104,7 +113,7 @@ without_shorter n (r ∷ l) =
 pub without_absent : (n : ℕ) (l : List Record) → member n l ≡ false → without n l ≡ l
 without_absent n [] h = refl
 without_absent n (r ∷ l) h =
-    sym (cond_false (without n l) (r ∷ without n l) (head_other r l n h)) ∙ ap (λ (x : List Record). r ∷ x) (without_absent n l (tail_absent r l n h))
+    rw (head_other r l n h) (ap (λ (x : List Record). r ∷ x) (without_absent n l (tail_absent r l n h)))
 
 -- validates `retired`: where no id stands twice, exactly one record is taken out
 pub without_one : (n : ℕ) (l : List Record) → distinct l ≡ true → member n l ≡ true → length l ≡ suc (length (without n l))
@@ -118,7 +127,7 @@ pub ids_without : (i : ℕ) (l : List Record) → ids_of (without i l) ≡ leavi
 ids_without i [] = refl
 ids_without i (r ∷ l) = go (eqb r.id i) (ids_without i l)
   where
-    go : (b : Bool) → ids_of (without i l) ≡ leaving i (ids_of l) → ids_of (cond b (without i l) (r ∷ without i l)) ≡ cond b (leaving i (ids_of l)) (r.id ∷ leaving i (ids_of l))
+    go : (b : Bool) → ids_of (without i l) ≡ leaving i (ids_of l) → ids_of (cond (not b) (r ∷ without i l) (without i l)) ≡ cond (not b) (r.id ∷ leaving i (ids_of l)) (leaving i (ids_of l))
     go true ih = ih
     go false ih = rw ih
 
@@ -138,11 +147,11 @@ formed_without n (r ∷ l) h =
     without_cases (λ x. formed x ≡ true) n r l (λ _. rest) (λ _. and_true (and_left (code_right r.code) (formed l) h) rest)
 
 -- validates `retired`: the id is found no more
-pub lookup_retired : (n : ℕ) (l : List Record) → lookup n (without n l) ≡ Nothing
+pub lookup_retired : (n : ℕ) (l : List Record) → lookup n (without n l) ≡ None
 lookup_retired n [] = refl
 lookup_retired n (r ∷ l) =
     let rest = lookup_retired n l in
-    without_cases (λ x. lookup n x ≡ Nothing) n r l (λ _. rest) (λ e. rw e rest)
+    without_cases (λ x. lookup n x ≡ None) n r l (λ _. rest) (λ e. rw e rest)
 
 -- validates `retired`: what is found of another id stays
 pub lookup_retired_other : (m n : ℕ) (l : List Record) → (m ≡ n → ⊥) → lookup m (without n l) ≡ lookup m l
@@ -151,4 +160,4 @@ lookup_retired_other m n (r ∷ l) h =
     let rest = lookup_retired_other m n l h in
     without_cases (λ x. lookup m x ≡ lookup m (r ∷ l)) n r l
     (λ e. rw (ne_eqb r.id m (λ k. h (sym k ∙ eqb-true r.id n e))) rest)
-    (λ _. rw rest)
+    (λ _. lookup_head m r (without n l) l rest)

@@ -1,8 +1,6 @@
-mod Numbers
 pub mod IdLaws
 pub mod Laws
 pub mod RestingLaws
-pub mod PlaceLaws
 pub mod KeptLaws
 pub mod StoreLaws
 pub mod ShortLaws
@@ -10,7 +8,9 @@ pub mod PackedLaws
 pub mod DropLaws
 pub mod KeepLaws
 pub mod HeldLaws
-pub mod Stored
-pub mod Rows
 pub mod Soundness
-pub mod Steps
+pub mod FoldLaws
+pub mod PairLaws
+pub mod ClearLaws
+pub mod PlaceLaws
+pub mod TakenLaws

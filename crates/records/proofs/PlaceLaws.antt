@@ -1,233 +1,139 @@
--- Kept answers in their places: a list that becomes another from the front, a place that is closed, the place of an id, octets that no answer uses, and what
--- keeping and dropping an answer are in each case.
-use Prim.Native.Nat.{ℕ, suc, ◌+◌, ◌-◌, ◌*◌, ◌≤◌, ◌<◌}
-use native.Mathlib.Numerals.{add-one}
+-- What moving and putting make of the places where answers and ids stand.
+use Prim.Native.Nat.{ℕ, ◌+◌, ◌-◌, ◌*◌, ◌≤◌, ◌<◌}
 use native.Mathlib.Omega.{arith}
 use mathlib.Core.Path.{◌≡◌, refl, sym, ap, ◌∙◌}
-use mathlib.Core.Bool.{Bool, true, false, cond, ◌&&◌, ◌||◌, and-false}
+use mathlib.Core.Bool.{true, false}
 use mathlib.Core.List.{List, [], ◌∷◌, ◌++◌, append-nil, append_assoc}
 use borrow.Author.Tests.{eq-eqb, ne_eqb, le-leb, lt-leb, leb-true, leb-false}
-use lib.Dec.{eqb, leb}
-use lib.ListN.{length, take, drop, get_or, set, replicate, length-append, length-take, length-drop, length-replicate, get_or-replicate, take-append-drop, drop_of_length-le, get_or-append}
-use lib.Seq.{take-suc, drop-cons, append_snoc, take_all, take_at, drop-drop, get_or-append-add, get_or-drop, set_at, length-take-le, slice-cons}
-use Rattle.base.proofs.Tests.{cond_elim, cond_true, cond_false, and_true, and_false_left, and_false_right}
-use Rattle.base.proofs.PartLaws.{drop_take}
+use borrow.Rule.Slice.PartMut.{put_mid}
+use lib.Dec.{leb}
+use lib.ListN.{length, take, drop, get_or, set, replicate, length-append, length-take, length-drop, length-replicate, drop_of_length-le}
+use lib.Seq.{drop-cons, take_all, set_at, length-take-le}
+use Rattle.std.proofs.lemmas.List.{drop-replicate}
+use Rattle.std.proofs.lemmas.List.Edits.{paste_all}
+use Rattle.std.proofs.lemmas.Slice.{put_mid-paste}
+use Rattle.base.proofs.Tests.{cond_elim, cond_true, cond_false}
+use Rattle.std.specs.Prelude.{Some, None}
+use Rattle.std.specs.List.{copy_within}
 use Rattle.ber.specs.Output.{placed}
+use Rattle.records.specs.declared.KeptPlace.{KeptPlace}
 use Rattle.records.specs.declared.Kept.{Kept}
-use Rattle.records.specs.declared.State.{State}
-use Rattle.records.specs.Limits.{answers, answer_octets, store_octets}
-use Rattle.records.specs.Numbers.{among, all_zero}
-use Rattle.records.specs.Kept.{all_short, clear_behind}
-use Rattle.records.specs.State.{put_kept}
-use Rattle.records.specs.Steps.{closed_at, place_of, kept_closed, kept_put, fits, kept_room, store_room, kept_next, store_next, can_drop, kept_less, store_less}
+use Rattle.records.specs.Limits.{resting, answers, answer_octets, store_octets}
+use Rattle.records.specs.Kept.{no_answer, answer_place}
+use Rattle.records.specs.Resting.{pack_ids, staying}
+use Rattle.records.specs.Steps.{closed_at, store_closed, kept_closed, kept_put, fits, kept_room, store_room, kept_next, store_next, kept_without_place, store_without_place, kept_less, store_less}
+use Rattle.records.proofs.StoreLaws.{take_to}
+use Rattle.records.proofs.RestingLaws.{next_place}
 
--- ---- a list that becomes another from the front
+-- ---- a part that is written whole
 
--- the first i numbers of t, and those of l behind
-abbrev pub partly : ℕ → List ℕ → List ℕ → List ℕ
-partly i t l = take i t ++ drop i l
+put_is : {A : Type 0} (a k : ℕ) (xs ys : List A) → length ys ≡ k → put_mid a k xs ys ≡ take a xs ++ (ys ++ drop (a + k) xs)
+put_is a k xs ys e = put_mid-paste a k xs ys ys k refl refl (sym e) ∙ paste_all xs a ys k (sym e)
 
-module _ (t l : List ℕ) (same : length t ≡ length l) (i : ℕ) where
-  partly_none : take i t ≡ take i l → l ≡ partly i t l
-  partly_none e = sym (rw e (take-append-drop i l))
+-- ---- w elements leave from a place on, and those behind move up
 
-  partly_all : length l ≤ i → partly i t l ≡ t
-  partly_all p = rw (take_all i t (omega arith), drop_of_length-le l {i = i} p) (append-nil t)
+module _ {A : Type 0} (w at : ℕ) (l : List A) (p : at + w ≤ length l) where
+  stays_length : length (take at l ++ drop (at + w) l) ≡ length l - w
+  stays_length = omega (arith, length-take-le at l (omega arith), length-append (take at l) (drop (at + w) l), length-drop (at + w) l)
 
-  module _ (s : List ℕ) (e : s ≡ partly i t l) where
-    -- behind the first i nothing has changed
-    partly_behind : i ≤ length l → (w : ℕ) → get_or s (i + w) 0 ≡ get_or l (i + w) 0
-    partly_behind p w =
-        let n : length (take i t) ≡ i = length-take-le i t (omega arith) in
-        rw e (ap (λ (k : ℕ). get_or (partly i t l) (k + w) 0) (sym n) ∙ get_or-append-add (take i t) (drop i l) w 0 ∙ get_or-drop i l w 0)
+  moved : copy_within l (at + w) (length l) at ≡ (take at l ++ drop (at + w) l) ++ drop (length l - w) l
+  moved =
+      let over : at + (length l - (at + w)) ≡ length l - w = omega arith in
+      paste_all l at (drop (at + w) l) (length l - (at + w)) (sym (length-drop (at + w) l))
+      ∙ ap (λ (n : ℕ). take at l ++ (drop (at + w) l ++ drop n l)) over
+      ∙ sym (append_assoc (take at l) (drop (at + w) l) (drop (length l - w) l))
 
-    partly_turn : i < length l → (x : ℕ) → x ≡ get_or t i 0 → set s i x ≡ partly (i + 1) t l
-    partly_turn p x h =
-        let n : length (take i t) ≡ i = length-take-le i t (omega arith) in
-        rw (e, h, add-one, drop-cons l i 0 p, set_at (take i t) (get_or l i 0) (drop (suc i) l) (get_or t i 0) i n, take-suc t i 0 (omega arith))
-        (sym (append_snoc (take i t) (get_or t i 0) (drop (suc i) l)))
+  moved_front : take (length l - w) (copy_within l (at + w) (length l) at) ≡ take at l ++ drop (at + w) l
+  moved_front = rw moved (take_to (length l - w) (take at l ++ drop (at + w) l) (drop (length l - w) l) stays_length)
 
--- ---- w numbers leave from a place on, those behind move up, and zeros close the list
+  moved_length : length (copy_within l (at + w) (length l) at) ≡ length l
+  moved_length = rw moved (omega (arith, stays_length, length-append (take at l ++ drop (at + w) l) (drop (length l - w) l), length-drop (length l - w) l))
 
-abbrev pub closed_from : ℕ → ℕ → List ℕ → List ℕ
-closed_from w at l = take at l ++ (drop (at + w) l ++ replicate w 0)
+-- the octets of a place leave
+pub octets_closed : (store m f : List ℕ) (place : ℕ) → length store ≡ store_octets → place < answers
+    → m ≡ copy_within store (place * 512 + 512) (length store) (place * 512) → f ≡ replicate (length (take (length m - 3584) (drop 3584 m))) 0
+    → put_mid 3584 (length m - 3584) m f ≡ store_closed store place
+octets_closed store m f place full q e z =
+    let p : place * 512 + 512 ≤ length store = omega arith in
+    let n : length m ≡ 4096 = ap length e ∙ moved_length 512 (place * 512) store p ∙ full in
+    let k : length (take (length m - 3584) (drop 3584 m)) ≡ 512 = omega (arith, n, length-take (length m - 3584) (drop 3584 m), length-drop 3584 m) in
+    let zeros : f ≡ replicate 512 0 = z ∙ ap (λ (j : ℕ). replicate j 0) k in
+    let wide : length f ≡ length m - 3584 = omega (arith, n, ap length zeros, length-replicate {A = ℕ} 512 0) in
+    let none : drop (3584 + (length m - 3584)) m ≡ [] = drop_of_length-le m {i = 3584 + (length m - 3584)} (omega arith) in
+    let c : length store - 512 ≡ 3584 = omega arith in
+    let front : take 3584 m ≡ take (place * 512) store ++ drop (place * 512 + 512) store =
+    ap (take 3584) e ∙ ap (λ (j : ℕ). take j (copy_within store (place * 512 + 512) (length store) (place * 512))) (sym c) ∙ moved_front 512 (place * 512) store p in
+    let at : place * 512 ≡ answer_octets * place = omega arith in
+    put_is 3584 (length m - 3584) m f wide
+    ∙ (λ t. front t ++ (zeros t ++ none t))
+    ∙ rw (append-nil {A = ℕ} (replicate 512 0), append_assoc, at) refl
 
--- those that stay
-abbrev stays : ℕ → ℕ → List ℕ → List ℕ
-stays w at l = take at l ++ drop (at + w) l
+-- the place of an answer leaves
+pub place_closed : (places m : List KeptPlace) (place : ℕ) → length places ≡ answers → place < answers
+    → m ≡ copy_within places (place + 1) (length places) place → set m 7 no_answer ≡ closed_at no_answer 1 place places
+place_closed places m place full q e =
+    let p : place + 1 ≤ length places = omega arith in
+    let c : length places - 1 ≡ 7 = omega arith in
+    let last : drop (length places - 1) places ≡ get_or places 7 no_answer ∷ [] =
+    ap (λ (j : ℕ). drop j places) c ∙ drop-cons places 7 no_answer (omega arith) ∙ ap (λ (l : List KeptPlace). get_or places 7 no_answer ∷ l) (drop_of_length-le places {i = 8} (omega arith)) in
+    let at : place ≡ 1 * place = omega arith in
+    ap (λ (l : List KeptPlace). set l 7 no_answer) (e ∙ moved 1 place places p ∙ (λ t. (take place places ++ drop (place + 1) places) ++ last t))
+    ∙ set_at (take place places ++ drop (place + 1) places) (get_or places 7 no_answer) [] no_answer 7 (stays_length 1 place places p ∙ c)
+    ∙ append_assoc (take place places) (drop (place + 1) places) (no_answer ∷ [])
+    ∙ ap (λ (j : ℕ). take j places ++ (drop (j + 1) places ++ no_answer ∷ [])) at
 
-module _ (w at : ℕ) (l : List ℕ) (p : at + w ≤ length l) where
-  front_length : length (take at l) ≡ at
-  front_length = length-take-le at l (omega arith)
+-- ---- an id rests
 
-  stays_length : length (stays w at l) ≡ length l - w
-  stays_length = omega (arith, front_length, length-append (take at l) (drop (at + w) l), length-drop (at + w) l)
+pub rested_is : (l s : List ℕ) (i : ℕ) → s ≡ l → length l < resting → set (s ++ drop (length l) (replicate 64 0)) (length l) i ≡ (pack_ids (l ++ i ∷ [])).ids
+rested_is l s i e room =
+    ap (λ (x : List ℕ). set x (length l) i) (λ t. e t ++ drop-replicate {X = ℕ} (length l) 64 0 t) ∙ next_place l i room
 
-  split : closed_from w at l ≡ stays w at l ++ replicate w 0
-  split = sym (append_assoc (take at l) (drop (at + w) l) (replicate w 0))
+pub stay_all : (l : List ℕ) → length l < resting → l ≡ staying l
+stay_all l h = cond_false _ _ (lt-leb resting (length l) h)
 
-  closed_length : length (closed_from w at l) ≡ length l
-  closed_length = rw split (omega (arith, stays_length, length-append (stays w at l) (replicate w 0), length-replicate {A = ℕ} w 0))
+pub oldest_leaves : (l : List ℕ) → resting ≤ length l → take (length l - 1) (drop 1 l) ≡ staying l
+oldest_leaves l h = take_all (length l - 1) (drop 1 l) (omega (arith, length-drop 1 l)) ∙ cond_true _ _ (le-leb resting (length l) h)
 
-  closed_before : take at (closed_from w at l) ≡ take at l
-  closed_before = take_at (take at l) (drop (at + w) l ++ replicate w 0) at front_length
-
-  closed_moved : (i : ℕ) → at ≤ i → i + w < length l → get_or (closed_from w at l) i 0 ≡ get_or l (i + w) 0
-  closed_moved i q r =
-      let j : ℕ = i - at in
-      let here : i ≡ length (take at l) + j = omega (arith, front_length) in
-      let there : at + w + j ≡ i + w = omega arith in
-      ap (λ (k : ℕ). get_or (closed_from w at l) k 0) here
-      ∙ get_or-append-add (take at l) (drop (at + w) l ++ replicate w 0) j 0
-      ∙ get_or-append (drop (at + w) l) (replicate w 0) 0 j (omega (arith, length-drop (at + w) l))
-      ∙ get_or-drop (at + w) l j 0
-      ∙ ap (λ (k : ℕ). get_or l k 0) there
-
-  closed_last : (i : ℕ) → length l ≤ i + w → i < length l → get_or (closed_from w at l) i 0 ≡ 0
-  closed_last i q r =
-      let j : ℕ = i - (length l - w) in
-      let here : i ≡ length (stays w at l) + j = omega (arith, stays_length) in
-      rw split
-      (ap (λ (k : ℕ). get_or (stays w at l ++ replicate w 0) k 0) here
-      ∙ get_or-append-add (stays w at l) (replicate w 0) j 0
-      ∙ get_or-replicate {A = ℕ} w j 0 0 (omega arith))
-
-  -- a list on its way to this one: where it starts, a turn that moves a number up, one that puts a zero, and the end
-  pub closed_none : (i : ℕ) → i ≡ at → l ≡ partly i (closed_from w at l) l
-  closed_none i e = rw e (partly_none (closed_from w at l) l closed_length at closed_before)
-
-  module _ (i : ℕ) (s : List ℕ) (e : s ≡ partly i (closed_from w at l) l) where
-    pub closed_turn : at ≤ i → i + w < length l → set s i (get_or s (i + w) 0) ≡ partly (i + 1) (closed_from w at l) l
-    closed_turn q r =
-        partly_turn (closed_from w at l) l closed_length i s e (omega arith) (get_or s (i + w) 0)
-        (partly_behind (closed_from w at l) l closed_length i s e (omega arith) w ∙ sym (closed_moved i q r))
-
-    pub closed_zero : length l ≤ i + w → i < length l → set s i 0 ≡ partly (i + 1) (closed_from w at l) l
-    closed_zero q r = partly_turn (closed_from w at l) l closed_length i s e r 0 (sym (closed_last i q r))
-
-    pub closed_all : length l ≤ i → s ≡ closed_from w at l
-    closed_all q = e ∙ partly_all (closed_from w at l) l closed_length i q
-
-    -- the last w numbers are put to 0 at once
-    pub closed_cut : i + w ≡ length l → take i s ++ replicate w 0 ≡ closed_from w at l
-    closed_cut q =
-        let n : length (take i (closed_from w at l)) ≡ i = length-take-le i (closed_from w at l) (omega (arith, closed_length)) in
-        rw (e, take_at (take i (closed_from w at l)) (drop i l) i n, split, take_at (stays w at l) (replicate w 0) i (omega (arith, stays_length))) refl
-
--- the last place is closed by zeros alone
-pub closed_end : (w at : ℕ) (l : List ℕ) → length l ≡ at + w → closed_from w at l ≡ take at l ++ replicate w 0
-closed_end w at l p = rw (drop_of_length-le l {i = at + w} (omega arith)) refl
-
--- ---- the place of an id
-
-module _ (x : ℕ) (ids : List ℕ) (n i : ℕ) where
-  module _ (p : i < n) (q : n ≤ length ids) where
-    pub place_here : get_or ids i 0 ≡ x → place_of x (drop i (take n ids)) ≡ 0
-    place_here h = rw (slice-cons i n ids 0 p q) (simp (eq-eqb _ _ h))
-
-    pub place_next : (get_or ids i 0 ≡ x → ⊥) → place_of x (drop i (take n ids)) ≡ 1 + place_of x (drop (i + 1) (take n ids))
-    place_next h = rw (slice-cons i n ids 0 p q, add-one) (simp (ne_eqb _ _ h))
-
-  pub place_none : n ≤ i → place_of x (drop i (take n ids)) ≡ 0
-  place_none p = rw (drop_of_length-le (take n ids) {i = i} (omega (arith, length-take n ids))) refl
-
--- an id is among these just where its place is not behind the last
-pub place_within : (x : ℕ) (l : List ℕ) → place_of x l < length l → among x l ≡ true
-place_within x [] h = absurd (omega arith)
-place_within x (y ∷ l) h = go (eqb y x) h (place_within x l)
-  where
-    go : (b : Bool) → cond b 0 (1 + place_of x l) < suc (length l) → (place_of x l < length l → among x l ≡ true) → (b || among x l) ≡ true
-    go true k f = refl
-    go false k f = f (omega arith)
-
-pub place_behind_lem : (x : ℕ) (l : List ℕ) → length l ≤ place_of x l → among x l ≡ false
-place_behind_lem x [] h = refl
-place_behind_lem x (y ∷ l) h = go (eqb y x) h (place_behind_lem x l)
-  where
-    go : (b : Bool) → suc (length l) ≤ cond b 0 (1 + place_of x l) → (length l ≤ place_of x l → among x l ≡ false) → (b || among x l) ≡ false
-    go true k f = absurd (omega arith)
-    go false k f = f (omega arith)
-
--- ---- the octets that no answer uses
-
--- lengths are short, and the octets that they do not use are 0
-abbrev pub unused_clear : List ℕ → List ℕ → Bool
-unused_clear lengths store = all_short lengths && clear_behind lengths store
-
--- a part of the octets of a place
-part_of : (l : List ℕ) (m x w : ℕ) → drop (m + x) (take (m + w) l) ≡ drop x (take w (drop m l))
-part_of l m x w =
-    let e : m + w - m ≡ w = omega arith in
-    sym (drop-drop x m (take (m + w) l)) ∙ ap (drop x) (drop_take m (m + w) l ∙ ap (λ (k : ℕ). take k (drop m l)) e)
-
-module _ (lengths store : List ℕ) (n i : ℕ) where
-  module _ (p : i < n) (q : n ≤ length lengths) where
-    pub clear_long : answer_octets < get_or lengths i 0 → unused_clear (drop i (take n lengths)) (drop (answer_octets * i) store) ≡ false
-    clear_long h = rw (slice-cons i n lengths 0 p q) (simp (lt-leb _ _ h))
-
-    module _ (at : ℕ) (e : at ≡ answer_octets * i) (b : Bool) (z : all_zero (drop (at + get_or lengths i 0) (take (at + answer_octets) store)) ≡ b) where
-      here : all_zero (drop (get_or lengths i 0) (take answer_octets (drop (answer_octets * i) store))) ≡ b
-      here = ap all_zero (sym (part_of store (answer_octets * i) (get_or lengths i 0) answer_octets)) ∙ (rw e at z)
-
-      pub clear_not : b ≡ false → unused_clear (drop i (take n lengths)) (drop (answer_octets * i) store) ≡ false
-      clear_not f = rw (slice-cons i n lengths 0 p q, here ∙ f) (and-false (leb (get_or lengths i 0) answer_octets && all_short (drop (suc i) (take n lengths))))
-
-      pub clear_next : b ≡ true → get_or lengths i 0 ≤ answer_octets
-          → unused_clear (drop i (take n lengths)) (drop (answer_octets * i) store) ≡ unused_clear (drop (i + 1) (take n lengths)) (drop (answer_octets * (i + 1)) store)
-      clear_next t h =
-          let k : answer_octets * (i + 1) ≡ answer_octets * i + answer_octets = omega arith in
-          rw (k, ← (drop-drop answer_octets (answer_octets * i) store), slice-cons i n lengths 0 p q, here ∙ t, le-leb _ _ h, add-one) refl
-
-  pub clear_ended : n ≤ i → (at : ℕ) → at ≡ answer_octets * i → length store ≡ store_octets → unused_clear (drop i (take n lengths)) (drop (answer_octets * i) store) ≡ all_zero (drop at (take store_octets store))
-  clear_ended p at e r = rw (e, take_all store_octets store (omega arith), drop_of_length-le (take n lengths) {i = i} (omega (arith, length-take n lengths))) refl
+pub staying_room : (l : List ℕ) → length l ≤ resting → length (staying l) < resting
+staying_room l h =
+    cond_elim (λ (m : List ℕ). length m < resting) (leb resting (length l)) (drop 1 l) l
+    (λ e. omega (arith, length-drop 1 l, leb-true resting (length l) e))
+    (λ e. omega (arith, leb-false resting (length l) e))
 
 -- ---- an answer is kept, or dropped
 
-pub room_count : (k : Kept) → k.count ≤ answers → (kept_room k).count < answers
-room_count k h =
-    cond_elim (λ (r : Kept). r.count < answers) (leb answers k.count) (kept_closed k 0) k
-    (λ e. omega (arith, leb-true answers k.count e))
-    (λ e. omega (arith, leb-false answers k.count e))
-
 module _ (k : Kept) (store : List ℕ) where
   -- where there is no room it is made
-  pub room_full : k.count ≡ answers → (kept_closed k 0 ≡ kept_room k) × (closed_at answer_octets 0 store ≡ store_room k store)
+  pub room_full : k.count ≡ answers → (kept_closed k 0 ≡ kept_room k) × (store_closed store 0 ≡ store_room k store)
   room_full h = let full = le-leb answers k.count (omega arith) in (cond_true _ _ full, cond_true _ _ full)
 
   pub room_left : k.count < answers → (k ≡ kept_room k) × (store ≡ store_room k store)
   room_left h = let few = lt-leb answers k.count h in (cond_false _ _ few, cond_false _ _ few)
 
-  pub room_octets : length store ≡ store_octets → length (store_room k store) ≡ length store
-  room_octets h =
-      cond_elim (λ (s : List ℕ). length s ≡ length store) (leb answers k.count) (closed_at answer_octets 0 store) store
-      (λ _. closed_length answer_octets 0 store (omega arith))
-      (λ _. refl)
-
-module _ (s : State) (store : List ℕ) (i : ℕ) where
+module _ (k : Kept) (store : List ℕ) (i : ℕ) where
   module _ (x : List ℕ) where
-    pub kept_not : fits s.kept store x ≡ false → (s ≡ put_kept s (kept_next s.kept store i x)) × (store ≡ store_next s.kept store x)
+    pub kept_not : fits k store x ≡ false → (k ≡ kept_next k store i x) × (store ≡ store_next k store x)
     unfolding kept_next store_next
-    kept_not h = (ap (put_kept s) (cond_false _ _ h), cond_false _ _ h)
+    kept_not h = (cond_false _ _ h, cond_false _ _ h)
 
-    -- t is the state when there is room, o the store then, and u the store with the octets
-    pub kept_next_lem : fits s.kept store x ≡ true → (t : State) (o u : List ℕ) → t ≡ put_kept s (kept_room s.kept) → o ≡ store_room s.kept store
-        → u ≡ placed o (t.kept.count * answer_octets) x → (put_kept t (kept_put t.kept i (length x)) ≡ put_kept s (kept_next s.kept store i x)) × (u ≡ store_next s.kept store x)
+    -- t is what is kept when there is room, o the store then, and u the store with the octets
+    pub kept_is_next : fits k store x ≡ true → (t : Kept) (o u : List ℕ) → t ≡ kept_room k → o ≡ store_room k store
+        → u ≡ placed o (t.count * answer_octets) x → (kept_put t i (length x) ≡ kept_next k store i x) × (u ≡ store_next k store x)
     unfolding kept_next store_next
-    kept_next_lem h t o u e f g = (rw e (ap (put_kept s) (cond_true _ _ h)), g ∙ rw (e, f) (cond_true _ _ h))
+    kept_is_next h t o u e f g = (rw e (cond_true _ _ h), g ∙ rw (e, f) (cond_true _ _ h))
 
-  less_not : can_drop s.kept store i ≡ false → (s ≡ put_kept s (kept_less s.kept store i)) × (store ≡ store_less s.kept store i)
+  pub less_elsewhere : (length store ≡ store_octets → ⊥) → (k ≡ kept_less k store i) × (store ≡ store_less k store i)
   unfolding kept_less store_less
-  less_not h = (ap (put_kept s) (cond_false _ _ h), cond_false _ _ h)
+  less_elsewhere h = let e = ne_eqb (length store) store_octets h in (cond_false _ _ e, cond_false _ _ e)
 
-  pub less_elsewhere : (length store ≡ store_octets → ⊥) → (s ≡ put_kept s (kept_less s.kept store i)) × (store ≡ store_less s.kept store i)
-  less_elsewhere h = less_not (and_false_left _ _ (ne_eqb (length store) store_octets h))
+  pub less_none : length store ≡ store_octets → answer_place i k ≡ None → (k ≡ kept_less k store i) × (store ≡ store_less k store i)
+  unfolding kept_less store_less
+  less_none g n =
+      let e = eq-eqb (length store) store_octets g in
+      (ap (kept_without_place k) (sym n) ∙ cond_true _ _ e, ap (store_without_place store) (sym n) ∙ cond_true _ _ e)
 
-  module _ (at n : ℕ) (e : at ≡ place_of i (take s.kept.count s.kept.ids)) (f : n ≡ length (take s.kept.count s.kept.ids)) where
-    pub less_none : n ≤ at → (s ≡ put_kept s (kept_less s.kept store i)) × (store ≡ store_less s.kept store i)
-    less_none h = less_not (and_false_right (eqb (length store) store_octets) _ (place_behind_lem i (take s.kept.count s.kept.ids) (omega arith)))
-
-    pub less_one : length store ≡ store_octets → at < n → (kept_closed s.kept at ≡ kept_less s.kept store i) × (closed_at answer_octets at store ≡ store_less s.kept store i)
-    unfolding kept_less store_less
-    less_one g h =
-        let can : can_drop s.kept store i ≡ true = and_true (eq-eqb _ _ g) (place_within i (take s.kept.count s.kept.ids) (omega arith)) in
-        (rw e (cond_true _ _ can), rw e (cond_true _ _ can))
+  pub less_one : (place : ℕ) → length store ≡ store_octets → answer_place i k ≡ Some place → (kept_closed k place ≡ kept_less k store i) × (store_closed store place ≡ store_less k store i)
+  unfolding kept_less store_less
+  less_one place g n =
+      let e = eq-eqb (length store) store_octets g in
+      (ap (kept_without_place k) (sym n) ∙ cond_true _ _ e, ap (store_without_place store) (sym n) ∙ cond_true _ _ e)

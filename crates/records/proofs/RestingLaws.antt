@@ -1,14 +1,13 @@
 -- The laws of resting ids: sound ones are their list with zeros behind, and what a call does to the own records or to them keeps them sound.
 use Prim.Native.Nat.{ℕ, suc, ◌+◌, ◌-◌, ◌≤◌, ◌<◌}
-use native.Mathlib.Numerals.{add-one}
 use native.Mathlib.Omega.{arith}
 use mathlib.Core.Path.{◌≡◌, refl, sym, ap, subst, ◌∙◌}
-use mathlib.Core.Bool.{Bool, true, false, cond, not}
+use mathlib.Core.Bool.{Bool, true, false, not}
 use mathlib.Core.List.{List, [], ◌∷◌, ◌++◌, append_assoc}
 use mathlib.Core.Logic.{◌⊎◌, inl, inr}
 use lib.Dec.{eqb, leb}
-use lib.ListN.{length, take, drop, get_or, set, replicate, length-append, length-take, length-drop, take-append-drop}
-use lib.Seq.{set-append_seam, take-append_seam, drop-append_seam, drop-append-le, drop-drop, take-suc, get_or-take, get_or-drop, length-take-le}
+use lib.ListN.{length, drop, set, replicate, length-append, length-drop, take-append-drop}
+use lib.Seq.{set-append_seam, take-append_seam, drop-append_seam, drop-append-le, drop-drop, length-take-le}
 use borrow.Author.Tests.{eqb-true, eq-eqb, leb-false, leb-true, le-leb}
 use Rattle.base.proofs.Tests.{cond_elim, and_left, and_right, or_cases, or_true_left, or_true_right}
 use Rattle.records.specs.declared.Record.{Record}
@@ -30,47 +29,6 @@ pub next_place : (l : List ℕ) (i : ℕ) → length l < resting → set (pack_i
 next_place l i room =
     let e = one_less resting (length l) room in
     simp (e, set-append_seam, length-append, append_assoc)
-
--- those that stay, by how many leave
-pub staying_behind : (l : List ℕ) → staying l ≡ drop (cond (leb resting (length l)) 1 0) l
-staying_behind l = go (leb resting (length l))
-  where
-    go : (b : Bool) → cond b (drop 1 l) l ≡ drop (cond b 1 0) l
-    go true = refl
-    go false = refl
-
--- so many leave that there is room for one more
-pub room_made : (n : ℕ) → n ≤ resting → (cond (leb resting n) 1 0 ≤ n) × (n - cond (leb resting n) 1 0 < resting)
-room_made n p =
-    cond_elim (λ (k : ℕ). (k ≤ n) × (n - k < resting)) (leb resting n) 1 0
-    (λ e. let q = leb-true resting n e in (omega arith, omega arith))
-    (λ e. let q = leb-false resting n e in (omega arith, omega arith))
-
--- ---- one turn of the loop that puts those down that stay, and its end
-
-module _ (r : Resting) (from : ℕ) where
-  pub stay_step : (i : ℕ) → i < length (drop from (view_ids r)) → length (drop from (view_ids r)) ≤ resting → (ids : List ℕ) → ids ≡ (pack_ids (take i (drop from (view_ids r)))).ids
-      → set ids i (get_or r.ids (from + i) 0) ≡ (pack_ids (take (i + 1) (drop from (view_ids r)))).ids
-  stay_step i p q ids e =
-      let l = drop from (view_ids r) in
-      let n : length (take i l) ≡ i = length-take-le i l (omega arith) in
-      let here : get_or l i 0 ≡ get_or r.ids (from + i) 0 =
-      get_or-drop from (view_ids r) i 0 ∙ get_or-take r.count r.ids (from + i) 0 (omega (arith, length-drop from (view_ids r), length-take r.count r.ids)) in
-      let more : take (i + 1) l ≡ take i l ++ get_or r.ids (from + i) 0 ∷ [] = rw (add-one, ← here) (take-suc l i 0 p) in
-      rw e
-      (ap (λ (k : ℕ). set (pack_ids (take i l)).ids k (get_or r.ids (from + i) 0)) (sym n)
-      ∙ next_place (take i l) (get_or r.ids (from + i) 0) (omega arith)
-      ∙ ap (λ (m : List ℕ). (pack_ids m).ids) (sym more))
-
-  pub rested_is : (k i : ℕ) (ids : List ℕ) → from ≡ cond (leb resting (length (view_ids r))) 1 0 → k ≡ length (drop from (view_ids r)) → k < resting
-      → ids ≡ (pack_ids (drop from (view_ids r))).ids → record { count = k + 1; ids = set ids k i } ≡ rested r i
-  rested_is k i ids e n room w =
-      let l = drop from (view_ids r) in
-      let stay : staying (view_ids r) ≡ l = staying_behind (view_ids r) ∙ ap (λ (j : ℕ). drop j (view_ids r)) (sym e) in
-      let count : k + 1 ≡ length (l ++ i ∷ []) = omega (arith, n, length-append l (i ∷ [])) in
-      let put : set ids k i ≡ (pack_ids (l ++ i ∷ [])).ids = rw (w, n) (next_place l i (omega (arith, n))) in
-      let all : ◌≡◌ {A = Resting} (record { count = k + 1; ids = set ids k i }) (pack_ids (l ++ i ∷ [])) = λ t. record { count = count t; ids = put t } in
-      all ∙ ap (λ (m : List ℕ). pack_ids (m ++ i ∷ [])) (sym stay)
 
 -- validates `staying`: of all ids forgotten so far the last 64 rest, oldest first
 pub last_rest : (l : List ℕ) (i : ℕ) → staying (drop (length l - resting) l) ++ i ∷ [] ≡ drop (length (l ++ i ∷ []) - resting) (l ++ i ∷ [])

@@ -1,12 +1,12 @@
 -- The laws of sound sides and states. A sound side is its live records with unused places behind, so whatever keeps their list short and its ids apart keeps the side sound.
-use Prim.Native.Nat.{ℕ, zero, suc, ◌+◌, ◌-◌, ◌≤◌, ◌<◌}
+use Prim.Native.Nat.{ℕ, zero, suc, ◌-◌, ◌≤◌, ◌<◌}
 use native.Mathlib.Omega.{arith}
 use mathlib.Core.Path.{◌≡◌, refl, sym, ap, subst, ◌∙◌}
 use mathlib.Core.Bool.{true, false, ◌&&◌}
 use mathlib.Core.List.{List, [], ◌∷◌, ◌++◌, append_assoc}
 use borrow.Author.Tests.{eqb-true, lt-ltb, le-leb, leb-true}
 use lib.Dec.{eqb, leb}
-use lib.ListN.{length, drop, set, replicate, length-append, length-take, length-drop, take-append-drop}
+use lib.ListN.{length, drop, replicate, length-append, length-take, length-drop, take-append-drop}
 use lib.Seq.{set-append_seam, take-append_seam, drop-append_seam, length-take-le}
 use Rattle.base.proofs.Tests.{and_true, and_left, and_right}
 use Rattle.codes.specs.Code.{same_code, code_right}
@@ -14,13 +14,11 @@ use Rattle.codes.proofs.CodeLaws.{same_code_equal}
 use Rattle.records.specs.declared.Record.{Record}
 use Rattle.records.specs.declared.Records.{Records}
 use Rattle.records.specs.Limits.{records, resting, answers}
-use Rattle.records.specs.Records.{unused, places, side, view, pack, member, without, distinct, formed, blank, sound_records, added, retired}
+use Rattle.records.specs.Records.{unused, view, pack, member, without, distinct, formed, blank, sound_records, added, retired}
 use Rattle.records.specs.Resting.{pack_ids, view_ids, sound_resting}
 use Rattle.records.specs.Kept.{sound_kept}
 use Rattle.records.specs.Held.{Held, fresh_held, sound_held, in_state, kept_answers, keep_these}
 use Rattle.records.proofs.IdLaws.{one_less}
-use Rattle.records.proofs.Stored.{Storable, storable_rows, storable_take, storable_without, storable_append, storable_unused, storable_formed}
-use Rattle.records.proofs.Rows.{Even, rows_length, rows_side, side_back, view_pack}
 use Rattle.records.proofs.Laws.{distinct_added, distinct_without, formed_added, formed_without, without_shorter, without_absent}
 use Rattle.records.proofs.RestingLaws.{SoundResting, resting_test, resting_is_packed, none_rests}
 use Rattle.records.proofs.KeptLaws.{none_kept}
@@ -29,23 +27,17 @@ use Rattle.records.proofs.PackedLaws.{store_of_test}
 
 -- ---- the list and the side that holds it
 
--- a record put behind the live ones
-abbrev pub appended : Records → Record → Records
-appended s r = side (s.count + 1) (set (places s) s.count r)
+pub view_pack : (l : List Record) → view (pack l) ≡ l
+view_pack l = take-append_seam l (replicate (records - length l) unused)
 
-pack_places : (l : List Record) → Storable l → places (pack l) ≡ l ++ replicate (records - length l) unused
-pack_places l f = rows_side (length l) (l ++ replicate (records - length l) unused) (storable_append l (replicate (records - length l) unused) f (storable_unused (records - length l)))
-
-pub appended_pack : (l : List Record) (r : Record) → Storable l → length l < records → appended (pack l) r ≡ pack (l ++ r ∷ [])
-appended_pack l r f p =
+-- adding to a packed side packs one record more
+pub added_pack : (l : List Record) (r : Record) → length l < records → added (pack l) r ≡ pack (l ++ r ∷ [])
+added_pack l r p =
     let e = one_less records (length l) p in
-    rw (pack_places l f) (simp (e, set-append_seam, length-append, append_assoc))
-
-pub view_storable : (s : Records) → Storable (view s)
-view_storable s = storable_take s.count (places s) (storable_rows s.ids s.lengths s.highs s.lows)
+    simp (lt-ltb _ _ p, e, set-append_seam, length-append, append_assoc)
 
 pub view_retired : (s : Records) (n : ℕ) → view (retired s n) ≡ without n (view s)
-view_retired s n = view_pack (without n (view s)) (storable_without n (view s) (view_storable s))
+view_retired s n = view_pack (without n (view s))
 
 -- ---- unused places
 
@@ -59,7 +51,7 @@ made_unused r p q =
     let e : ◌≡◌ {A = Record} (record { id = r.id; code = r.code }) (record { id = unused.id; code = unused.code }) = cc in
     e
 
-blank_is_unused : (l : List Record) → blank l ≡ true → l ≡ replicate (length l) unused
+pub blank_is_unused : (l : List Record) → blank l ≡ true → l ≡ replicate (length l) unused
 blank_is_unused [] h = refl
 blank_is_unused (r ∷ l) h =
     let place = and_left (eqb r.id 0 && same_code r.code unused.code) (blank l) h in
@@ -74,10 +66,10 @@ module _ (s : Records) (h : sound_records s ≡ true) where
   pub sound_is_short : s.count ≤ records
   sound_is_short = leb-true s.count records (and_left (leb s.count records) _ h)
 
-  behind_count : (distinct (view s) && (formed (view s) && blank (drop s.count (places s)))) ≡ true
+  behind_count : (distinct (view s) && (formed (view s) && blank (drop s.count s.places))) ≡ true
   behind_count = and_right (leb s.count records) _ h
 
-  behind_distinct : (formed (view s) && blank (drop s.count (places s))) ≡ true
+  behind_distinct : (formed (view s) && blank (drop s.count s.places)) ≡ true
   behind_distinct = and_right (distinct (view s)) _ behind_count
 
   pub sound_is_distinct : distinct (view s) ≡ true
@@ -86,20 +78,19 @@ module _ (s : Records) (h : sound_records s ≡ true) where
   pub sound_is_formed : formed (view s) ≡ true
   sound_is_formed = and_left (formed (view s)) _ behind_distinct
 
-  sound_is_blank : blank (drop s.count (places s)) ≡ true
+  pub sound_is_blank : blank (drop s.count s.places) ≡ true
   sound_is_blank = and_right (formed (view s)) _ behind_distinct
 
 -- a sound side is its live records with unused places behind
-pub sound_is_packed : (s : Records) → length s.ids ≡ records → Even s → sound_records s ≡ true → s ≡ pack (view s)
-sound_is_packed s p q h =
-    let full : length (places s) ≡ records = rows_length s.ids s.lengths s.highs s.lows ∙ p in
+pub sound_is_packed : (s : Records) → length s.places ≡ records → sound_records s ≡ true → s ≡ pack (view s)
+sound_is_packed s full h =
     let few = sound_is_short s h in
-    let n : length (view s) ≡ s.count = length-take-le s.count (places s) (omega arith) in
-    let left : length (drop s.count (places s)) ≡ records - s.count = length-drop s.count (places s) ∙ ap (λ (k : ℕ). k - s.count) full in
-    let clear = blank_is_unused (drop s.count (places s)) (sound_is_blank s h) in
-    let tail : replicate (records - length (view s)) unused ≡ drop s.count (places s) = rw n (sym (clear ∙ ap (λ (k : ℕ). replicate k unused) left)) in
-    let all : view s ++ replicate (records - length (view s)) unused ≡ places s = rw tail (take-append-drop s.count (places s)) in
-    sym (side_back s q) ∙ ap (side s.count) (sym all) ∙ ap (λ (k : ℕ). side k (view s ++ replicate (records - length (view s)) unused)) (sym n)
+    let n : length (view s) ≡ s.count = length-take-le s.count s.places (omega arith) in
+    let left : length (drop s.count s.places) ≡ records - length (view s) = omega (arith, length-drop s.count s.places) in
+    let clear : drop s.count s.places ≡ replicate (records - length (view s)) unused =
+    blank_is_unused (drop s.count s.places) (sound_is_blank s h) ∙ ap (λ (k : ℕ). replicate k unused) left in
+    let all : s.places ≡ view s ++ replicate (records - length (view s)) unused = sym (take-append-drop s.count s.places) ∙ (λ t. view s ++ clear t) in
+    λ t. record { count = sym n t; places = all t }
 
 -- what the laws keep of a side: a list in the logic may have any length, so that the side is packed is said beside the test
 pub record Sound (s : Records) : Type 0 where
@@ -109,30 +100,27 @@ pub record Sound (s : Records) : Type 0 where
 pub packed_is_sound : (l : List Record) → length l ≤ records → distinct l ≡ true → formed l ≡ true → Sound (pack l)
 packed_is_sound l few once form =
     record {
-      test = rw (pack_places l (storable_formed l form)) (simp (le-leb _ _ few, take-append_seam, drop-append_seam, once, form, blank_replicate));
-      packed = ap pack (sym (view_pack l (storable_formed l form)));
+      test = simp (le-leb _ _ few, take-append_seam, drop-append_seam, once, form, blank_replicate);
+      packed = ap pack (sym (view_pack l));
     }
 
 module _ {s : Records} (h : Sound s) where
   -- the new record goes last
   pub added_is_packed : (r : Record) → length (view s) < records → added s r ≡ pack (view s ++ r ∷ [])
-  added_is_packed r room = ap (λ (t : Records). added t r) h.packed ∙ simp (lt-ltb _ _ room) (appended_pack (view s) r (view_storable s) room)
+  added_is_packed r room = ap (λ (t : Records). added t r) h.packed ∙ added_pack (view s) r room
 
-  still_formed : (r : Record) → code_right r.code ≡ true → formed (view s ++ r ∷ []) ≡ true
-  still_formed r form = formed_added (view s) r (sound_is_formed s h.test) form
-
-  pub view_added : (r : Record) → length (view s) < records → code_right r.code ≡ true → view (added s r) ≡ view s ++ r ∷ []
-  view_added r room form = ap view (added_is_packed r room) ∙ view_pack (view s ++ r ∷ []) (storable_formed (view s ++ r ∷ []) (still_formed r form))
+  pub view_added : (r : Record) → length (view s) < records → view (added s r) ≡ view s ++ r ∷ []
+  view_added r room = ap view (added_is_packed r room) ∙ view_pack (view s ++ r ∷ [])
 
   pub added_is_sound : (r : Record) → length (view s) < records → member r.id (view s) ≡ false → code_right r.code ≡ true → Sound (added s r)
   added_is_sound r room new form =
       subst Sound (sym (added_is_packed r room))
-      (packed_is_sound (view s ++ r ∷ []) (omega (arith, length-append (view s) (r ∷ []))) (distinct_added (view s) r (sound_is_distinct s h.test) new) (still_formed r form))
+      (packed_is_sound (view s ++ r ∷ []) (omega (arith, length-append (view s) (r ∷ []))) (distinct_added (view s) r (sound_is_distinct s h.test) new) (formed_added (view s) r (sound_is_formed s h.test) form))
 
   pub retired_is_sound : (n : ℕ) → Sound (retired s n)
   retired_is_sound n =
       packed_is_sound (without n (view s))
-      (omega (arith, without_shorter n (view s), length-take s.count (places s), sound_is_short s h.test))
+      (omega (arith, without_shorter n (view s), length-take s.count s.places, sound_is_short s h.test))
       (distinct_without n (view s) (sound_is_distinct s h.test))
       (formed_without n (view s) (sound_is_formed s h.test))
 
@@ -158,19 +146,22 @@ module _ {s : Held} (h : SoundParts s) where
   sound_state_lem = and_true h.own.test (and_true h.peer.test (and_true (resting_test h.resting) (store_test h.kept)))
 
 -- the kept answers of a sound state are sound beside its peer records
+pub held_peer_sound : (s : Held) → sound_held s ≡ true → sound_records s.state.peer ≡ true
+held_peer_sound s h = and_left (sound_records s.state.peer) _ (and_right (sound_records s.state.own) _ h)
+
 pub held_kept_sound : (s : Held) → sound_held s ≡ true → sound_kept (view s.state.peer) s.state.kept s.store ≡ true
 held_kept_sound s h =
     and_right (sound_resting (view s.state.own) s.state.resting) _ (and_right (sound_records s.state.peer) _ (and_right (sound_records s.state.own) _ h))
 
 -- validates `sound_state`: where each field has its places, as it has in code, a sound state and its store are their lists with unused places behind
-pub sound_state_packed : (s : Held) → length s.state.own.ids ≡ records → Even s.state.own → length s.state.peer.ids ≡ records → Even s.state.peer
-    → length s.state.resting.ids ≡ resting → length s.state.kept.ids ≡ answers → length s.state.kept.lengths ≡ answers → sound_held s ≡ true
+pub sound_state_packed : (s : Held) → length s.state.own.places ≡ records → length s.state.peer.places ≡ records
+    → length s.state.resting.ids ≡ resting → length s.state.kept.places ≡ answers → sound_held s ≡ true
     → s ≡ keep_these (in_state s (record { own = pack (view s.state.own); peer = pack (view s.state.peer); resting = pack_ids (view_ids s.state.resting); kept = s.state.kept })) (kept_answers s)
-sound_state_packed s p q u v w i j h =
+sound_state_packed s p u w i h =
     let behind = and_right (sound_records s.state.own) _ h in
     let last = and_right (sound_records s.state.peer) _ behind in
-    let own = sound_is_packed s.state.own p q (and_left (sound_records s.state.own) _ h) in
-    let peer = sound_is_packed s.state.peer u v (and_left (sound_records s.state.peer) _ behind) in
+    let own = sound_is_packed s.state.own p (and_left (sound_records s.state.own) _ h) in
+    let peer = sound_is_packed s.state.peer u (and_left (sound_records s.state.peer) _ behind) in
     let rest = resting_is_packed (view s.state.own) s.state.resting w (and_left _ _ last) in
-    let kept = store_of_test (view s.state.peer) s.state.kept s.store i j (held_kept_sound s h) in
+    let kept = store_of_test (view s.state.peer) s.state.kept s.store i (held_kept_sound s h) in
     λ t. record { state = record { own = own t; peer = peer t; resting = rest t; kept = kept.packed t }; store = kept.filled t }

@@ -1,4 +1,4 @@
--- What one end holds from call to call: its state, and the store of its kept answers, which is lent beside it: document 02, Seven.
+-- What one end holds from call to call: its state, and the store of its kept answers, which is lent beside it: docs/RULES.md, 'Kept answers'.
 use Rattle.std.specs.Prelude.{ℕ, Bool, cond, List, []}
 use Rattle.records.specs.declared.PeerId.{PeerId}
 use Rattle.records.specs.declared.State.{State}

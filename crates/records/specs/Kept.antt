@@ -1,6 +1,8 @@
--- The kept answers, this end's last ones to what the peer invoked: document 02, Seven. What keeping and dropping mean is said of their list, oldest first.
-use Rattle.std.specs.Prelude.{ℕ, ◌-◌, ◌*◌, Bool, true, cond, ◌&&◌, List, [], ◌∷◌, ◌++◌, length, take, drop, get_or, replicate, eqb, leb}
+-- The kept answers, this end's last ones to what the peer invoked: docs/RULES.md, 'Kept answers'. What keeping and dropping mean is said of their list, oldest first.
+use Rattle.std.specs.Prelude.{ℕ, ◌-◌, ◌*◌, Bool, not, ◌&&◌, List, [], ◌∷◌, ◌++◌, Option, map, filter, position, length, take, drop, replicate, ◌==◌, nat_le, if◌then◌else◌}
+use Rattle.std.specs.List.{list_all}
 use Rattle.records.specs.declared.Record.{Record}
+use Rattle.records.specs.declared.KeptPlace.{KeptPlace}
 use Rattle.records.specs.declared.Kept.{Kept}
 use Rattle.records.specs.Limits.{answers, answer_octets, store_octets}
 use Rattle.records.specs.Numbers.{among, each_once, none_among, all_zero}
@@ -14,8 +16,7 @@ pub record KeptAnswer : Type 0 where
 -- ---- their list
 
 abbrev pub answer_ids : List KeptAnswer → List ℕ
-answer_ids [] = []
-answer_ids (k ∷ l) = k.id ∷ answer_ids l
+answer_ids l = map (λ k. k.id) l
 
 -- the id has a kept answer
 abbrev pub is_kept : ℕ → List KeptAnswer → Bool
@@ -24,43 +25,52 @@ is_kept i l = among i (answer_ids l)
 -- the kept APDU of the id, no octets where there is none
 abbrev pub kept_apdu : ℕ → List KeptAnswer → List ℕ
 kept_apdu i [] = []
-kept_apdu i (k ∷ l) = cond (eqb k.id i) k.apdu (kept_apdu i l)
+kept_apdu i (k ∷ l) = if k.id == i then k.apdu else kept_apdu i l
 
 -- a dropped answer closes the gap, order kept
 abbrev pub kept_without : ℕ → List KeptAnswer → List KeptAnswer
-kept_without i [] = []
-kept_without i (k ∷ l) = cond (eqb k.id i) (kept_without i l) (k ∷ kept_without i l)
+kept_without i l = filter (λ k. not (k.id == i)) l
 
 -- where eight are kept the oldest makes room
 abbrev pub with_room : List KeptAnswer → List KeptAnswer
-with_room l = cond (leb answers (length l)) (drop 1 l) l
+with_room l = if nat_le answers (length l) then drop 1 l else l
 
 -- a new answer goes last; one of over 512 octets is not kept, and then none makes room
 unfoldable pub keeping : List KeptAnswer → KeptAnswer → List KeptAnswer
-keeping l k = cond (leb (length k.apdu) answer_octets) (with_room l ++ k ∷ []) l
+keeping l k = if nat_le (length k.apdu) answer_octets then with_room l ++ k ∷ [] else l
 
 -- ---- the list in the state and in the store: ids and lengths in the one, 512 octets for each answer in the other
 
--- each id and length has the next 512 octets of the store
-abbrev pub answers_in : List ℕ → List ℕ → List ℕ → List KeptAnswer
-answers_in [] lengths store = []
-answers_in (i ∷ ids) lengths store = record { id = i; apdu = take (get_or lengths 0 0) store } ∷ answers_in ids (drop 1 lengths) (drop answer_octets store)
+-- the places below the count
+abbrev pub kept_places : Kept → List KeptPlace
+kept_places k = take k.count k.places
 
--- the kept answers, oldest first: those below the count
+abbrev pub place_ids : List KeptPlace → List ℕ
+place_ids l = map (λ p. p.id) l
+
+-- an unused place is 0
+abbrev pub no_answer : KeptPlace
+no_answer = record { id = 0; length = 0 }
+
+abbrev pub is_free : KeptPlace → Bool
+is_free p = p.id == 0 && p.length == 0
+
+-- each place has the next 512 octets of the store
+abbrev pub answers_in : List KeptPlace → List ℕ → List KeptAnswer
+answers_in [] store = []
+answers_in (p ∷ l) store = record { id = p.id; apdu = take p.length store } ∷ answers_in l (drop answer_octets store)
+
+-- the kept answers, oldest first
 unfoldable pub view_kept : Kept → List ℕ → List KeptAnswer
-view_kept k store = answers_in (take k.count k.ids) k.lengths store
+view_kept k store = answers_in (kept_places k) store
 
-abbrev pub answer_lengths : List KeptAnswer → List ℕ
-answer_lengths [] = []
-answer_lengths (k ∷ l) = length k.apdu ∷ answer_lengths l
+-- the place of an answer: its id, and how many octets it has
+abbrev pub place_for : KeptAnswer → KeptPlace
+place_for k = record { id = k.id; length = length k.apdu }
 
--- the ids and lengths of these answers, every place behind them 0
+-- the places of these answers, every one behind them 0
 unfoldable pub pack_kept : List KeptAnswer → Kept
-pack_kept l = record {
-  count = length l;
-  ids = answer_ids l ++ replicate (answers - length l) 0;
-  lengths = answer_lengths l ++ replicate (answers - length l) 0;
-}
+pack_kept l = record { count = length l; places = map place_for l ++ replicate (answers - length l) no_answer }
 
 -- an answer and zeros, 512 octets together
 abbrev pub block : KeptAnswer → List ℕ
@@ -74,26 +84,29 @@ blocks (k ∷ l) = block k ++ blocks l
 unfoldable pub pack_store : List KeptAnswer → List ℕ
 pack_store l = blocks l ++ replicate (answer_octets * (answers - length l)) 0
 
+-- where the id's answer stands, if there is one
+abbrev pub answer_place : ℕ → Kept → Option ℕ
+answer_place i k = position (λ p. p.id == i) (kept_places k)
+
 -- ---- sound kept answers
 
 -- each length is at most 512
-abbrev pub all_short : List ℕ → Bool
-all_short [] = true
-all_short (n ∷ l) = leb n answer_octets && all_short l
+abbrev pub all_short : List KeptPlace → Bool
+all_short l = list_all (λ p. nat_le p.length answer_octets) l
 
 -- unused octets are 0: those behind a length, and all behind the last answer
-abbrev pub clear_behind : List ℕ → List ℕ → Bool
+abbrev pub clear_behind : List KeptPlace → List ℕ → Bool
 clear_behind [] store = all_zero store
-clear_behind (n ∷ l) store = all_zero (drop n (take answer_octets store)) && clear_behind l (drop answer_octets store)
+clear_behind (p ∷ l) store = all_zero (drop p.length (take answer_octets store)) && clear_behind l (drop answer_octets store)
 
 -- kept answers are sound beside the live peer records: a store of 4,096 octets, at most 8, no id twice, none among those records, lengths at most 512,
 -- unused places and octets 0; what the octets are is not asked
 unfoldable pub sound_kept : List Record → Kept → List ℕ → Bool
 sound_kept peers k store =
-    eqb (length store) store_octets
-    && (leb k.count answers
-    && (each_once (take k.count k.ids)
-    && (none_among (take k.count k.ids) (ids_of peers)
-    && (all_short (take k.count k.lengths)
-    && ((all_zero (drop k.count k.ids) && all_zero (drop k.count k.lengths))
-    && clear_behind (take k.count k.lengths) store)))))
+    length store == store_octets
+    && (nat_le k.count answers
+    && (each_once (place_ids (kept_places k))
+    && (none_among (place_ids (kept_places k)) (ids_of peers)
+    && (all_short (kept_places k)
+    && (list_all is_free (drop k.count k.places)
+    && clear_behind (kept_places k) store)))))

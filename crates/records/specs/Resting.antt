@@ -1,5 +1,5 @@
--- The ids that rest, own ids that were forgotten: document 02, Six. What resting means is said of their list, oldest first.
-use Rattle.std.specs.Prelude.{ℕ, ◌-◌, Bool, cond, ◌&&◌, List, [], ◌∷◌, ◌++◌, length, take, drop, replicate, leb}
+-- The ids that rest, own ids that were forgotten: docs/RULES.md, 'Ids that rest'. What resting means is said of their list, oldest first.
+use Rattle.std.specs.Prelude.{ℕ, ◌-◌, Bool, ◌&&◌, List, [], ◌∷◌, ◌++◌, length, take, drop, replicate, nat_le, if◌then◌else◌}
 use Rattle.records.specs.declared.Record.{Record}
 use Rattle.records.specs.declared.Resting.{Resting}
 use Rattle.records.specs.Limits.{resting}
@@ -16,11 +16,11 @@ pack_ids l = record { count = length l; ids = l ++ replicate (resting - length l
 
 -- resting ids are sound beside the live own records: at most 64, none twice, none among those records, unused places 0
 abbrev pub sound_resting : List Record → Resting → Bool
-sound_resting owns r = leb r.count resting && (each_once (view_ids r) && (none_among (view_ids r) (ids_of owns) && all_zero (drop r.count r.ids)))
+sound_resting owns r = nat_le r.count resting && (each_once (view_ids r) && (none_among (view_ids r) (ids_of owns) && all_zero (drop r.count r.ids)))
 
 -- those that stay when one more enters: where 64 rest the oldest leaves
 abbrev pub staying : List ℕ → List ℕ
-staying l = cond (leb resting (length l)) (drop 1 l) l
+staying l = if nat_le resting (length l) then drop 1 l else l
 
 -- a forgotten id goes last
 abbrev pub rested : Resting → ℕ → Resting

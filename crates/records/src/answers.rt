@@ -1,177 +1,221 @@
-// The kept answers: document 02, Seven. Their ids and lengths stand in the state, their octets in the store that is lent beside it.
-ghost use Rattle.std.specs.Prelude.{◌≡◌, ◌&&◌, List, [], ◌++◌, ℕ, ◌-◌, ◌≤◌, ◌<◌, length, take, drop, replicate};
+// The kept answers: docs/RULES.md, 'Kept answers'.
+ghost use Rattle.std.specs.Prelude.{◌≡◌, ◌<◌, ◌≤◌, ◌*◌, ◌&&◌, [], length, drop};
+ghost use Rattle.std.specs.List.{list_all};
 ghost use Rattle.records.specs.Limits.{answers, answer_octets, store_octets};
-ghost use Rattle.records.specs.Records.{lent, view};
-ghost use Rattle.records.specs.Numbers.{all_zero};
-ghost use Rattle.records.specs.Kept.{pack_kept, all_short, clear_behind, sound_kept};
-ghost use Rattle.records.specs.Steps.{closed_at, place_of, kept_closed, kept_put};
+ghost use Rattle.records.specs.Numbers.{all_zero, each_once, none_among};
+ghost use Rattle.records.specs.Records.{view, ids_of};
+ghost use Rattle.records.specs.Kept.{kept_places, place_ids, pack_kept, answer_place, sound_kept, is_free, all_short, clear_behind};
+ghost use Rattle.records.specs.Steps.{kept_closed, store_closed, kept_put, kept_next, store_next, kept_less, store_less};
 
-use crate::fields::{are_ids_clear, each_once, none_among};
-use crate::lent::live;
-use crate::{Kept, PeerId, State};
+use crate::ids::each_once;
+use crate::{Kept, KeptPlace, Records, State};
+use ber::output::put_octets;
 
-// The place of the answer to the id, behind the last where none is kept.
-pub fn place_of(count: usize, ids: &[u32; State::ANSWERS], id: PeerId) -> usize
-    ensures { result ≡ place_of id.0 (take count ids.now) }
+impl KeptPlace {
+    pub const UNUSED: KeptPlace = KeptPlace { id: 0, length: 0 };
+
+    // Whether the place is 0.
+    fn is_free(&self) -> bool
+        ensures { result ≡ is_free self.now }
+    {
+        (self.id == 0) & (self.length == 0)
+    }
+}
+
+// Whether octets are all 0. All are looked at, so that several are at a time. For ids it stands once more: a trait of both would be longer than this.
+#[tactic(auto, using(crate::proofs::FoldLaws::fold_zero))]
+fn are_zero(octets: &[u8]) -> bool
+    ensures { result ≡ all_zero octets.now }
 {
-    let n = live(count, ids);
-    let mut i: usize = 0;
-    while i < n {
-        if ids[i] == id.0 {
-            return i;
+    octets.iter().fold(0, |used, &octet| used | octet) == 0
+}
+
+// Whether the octets of all places from `place` on are 0. Place by place: one walk over the store was tried, and takes more instructions.
+fn are_clear_from(place: usize, store: &[u8]) -> bool
+    requires within { place ≤ answers }
+    requires whole { length store.now ≡ store_octets }
+    ensures { result ≡ all_zero (drop (answer_octets * place) store.now) }
+{
+    for i in place..State::ANSWERS {
+        let at = i * State::ANSWER_OCTETS;
+        if !are_zero(&store[at..at + State::ANSWER_OCTETS]) {
+            return false;
         }
-        i += 1;
     }
-    n
+    true
 }
 
-// Whether the octets from `from` to `to` are 0. The walk is not left early, so that octets are read several at a time.
-fn are_octets_clear(from: usize, to: usize, store: &[u8]) -> bool
-    requires { (from ≤ to) × (to ≤ length store.now) }
-    ensures { result ≡ all_zero (drop from (take to store.now)) }
+// Whether each length is at most 512, and the octets that no answer uses are 0.
+fn is_store_clear(places: &[KeptPlace], store: &[u8]) -> bool
+    requires few { length places.now ≤ answers }
+    requires whole { length store.now ≡ store_octets }
+    ensures { result ≡ (all_short places.now && clear_behind places.now store.now) }
 {
-    let mut used: u8 = 0;
-    let mut i = from;
-    while i < to {
-        used = used | store[i];
-        i += 1;
-    }
-    used == 0
-}
-
-// Whether these are 0 from `from` on, ids or lengths; no lengths of names stand beside them.
-fn is_clear(from: usize, numbers: &[u32; State::ANSWERS]) -> bool
-    ensures { result ≡ all_zero (drop from numbers.now) }
-{
-    let lengths = [0; State::ANSWERS];
-    are_ids_clear(from, numbers, &lengths)
-}
-
-// Whether each of so many lengths is at most 512, and the octets that no answer uses are 0.
-fn is_store_clear<'a>(n: usize, lengths: &'a [u32], store: &'a [u8]) -> bool
-    requires { (n ≤ answers) × (n ≤ length lengths.now) × (length store.now ≡ store_octets) }
-    ensures { result ≡ (all_short (take n lengths.now) && clear_behind (take n lengths.now) store.now) }
-{
-    let mut i: usize = 0;
-    while i < n {
-        let used = lengths[i] as usize;
+    for (i, place) in places.iter().enumerate() {
+        let used = place.length as usize;
         if State::ANSWER_OCTETS < used {
             return false;
         }
         let at = i * State::ANSWER_OCTETS;
-        if !are_octets_clear(at + used, at + State::ANSWER_OCTETS, store) {
+        if !are_zero(&store[at + used..at + State::ANSWER_OCTETS]) {
             return false;
         }
-        i += 1;
     }
-    are_octets_clear(n * State::ANSWER_OCTETS, State::STORE_OCTETS, store)
-}
-
-// Whether the kept answers are sound beside the peer side, whose ids are lent too; where none is kept only that all is unused is asked.
-pub fn sound<'a>(
-    count: usize,
-    ids: &'a [u32; State::ANSWERS],
-    lengths: &'a [u32; State::ANSWERS],
-    store: &'a [u8],
-    peer_count: usize,
-    peer_ids: &'a [u32; State::RECORDS],
-) -> bool
-    ensures { (codes highs lows : List ℕ) → result ≡ sound_kept (view (lent peer_count peer_ids.now codes highs lows)) (record { count = count; ids = ids.now; lengths = lengths.now }) store.now }
-{
-    if store.len() != State::STORE_OCTETS {
-        return false;
-    }
-    if count == 0 {
-        return (is_clear(0, ids) & is_clear(0, lengths))
-            & are_octets_clear(0, State::STORE_OCTETS, store);
-    }
-    if State::ANSWERS < count {
-        return false;
-    }
-    each_once(count, ids)
-        & (none_among(count, ids, live(peer_count, peer_ids), peer_ids)
-            & ((is_clear(count, ids) & is_clear(count, lengths))
-                & is_store_clear(count, lengths, store)))
-}
-
-// The number in a place leaves, an id or a length.
-fn close_numbers(place: usize, numbers: &mut [u32; State::ANSWERS])
-    requires { (length numbers.old ≡ answers) × (place < answers) }
-    ensures { numbers.new ≡ closed_at 1 place numbers.old }
-{
-    let mut i = place;
-    while i < State::ANSWERS - 1 {
-        numbers[i] = numbers[i + 1];
-        i += 1;
-    }
-    numbers[State::ANSWERS - 1] = 0;
-}
-
-// The octets behind those of a place move up; the last 512 stay.
-fn move_octets(place: usize, store: &mut [u8])
-    requires { (length store.old ≡ store_octets) × (place < answers) }
-    ensures { store.new ≡ take (store_octets - answer_octets) (closed_at answer_octets place store.old) ++ drop (store_octets - answer_octets) store.old }
-{
-    let mut i = place * State::ANSWER_OCTETS;
-    while i < State::STORE_OCTETS - State::ANSWER_OCTETS {
-        store[i] = store[i + State::ANSWER_OCTETS];
-        i += 1;
-    }
-}
-
-// The last 512 octets are 0.
-fn clear_last(store: &mut [u8])
-    requires { length store.old ≡ store_octets }
-    ensures { store.new ≡ take (store_octets - answer_octets) store.old ++ replicate answer_octets 0 }
-{
-    let mut i = State::STORE_OCTETS - State::ANSWER_OCTETS;
-    while i < State::STORE_OCTETS {
-        store[i] = 0;
-        i += 1;
-    }
-}
-
-// The octets of a place leave.
-pub(crate) fn close_octets(place: usize, store: &mut [u8])
-    requires { (length store.old ≡ store_octets) × (place < answers) }
-    ensures { store.new ≡ closed_at answer_octets place store.old }
-{
-    move_octets(place, store);
-    clear_last(store);
+    are_clear_from(places.len(), store)
 }
 
 impl Kept {
     #[tactic(auto, unfolding(crate::specs::Kept::pack_kept))]
-    pub(crate) fn fresh() -> Self
+    pub fn fresh() -> Self
         ensures { result ≡ pack_kept [] }
     {
         Kept {
             count: 0,
-            ids: [0; State::ANSWERS],
-            lengths: [0; State::ANSWERS],
+            places: [KeptPlace::UNUSED; State::ANSWERS],
         }
     }
 
-    // The answer in a place leaves.
-    pub(crate) fn close(mut self, place: usize) -> Self
-        requires { (place < answers) × (1 ≤ self.count) }
-        ensures { result ≡ kept_closed self place }
+    // The places of kept answers.
+    pub fn as_slice(&self) -> &[KeptPlace]
+        ensures { result.now ≡ kept_places self.now }
     {
-        close_numbers(place, &mut self.ids);
-        close_numbers(place, &mut self.lengths);
-        self.count = self.count - 1;
-        self
+        if self.count < State::ANSWERS {
+            &self.places[..self.count]
+        } else {
+            &self.places
+        }
+    }
+
+    // Where the answer to the id stands.
+    pub fn place(&self, id: u32) -> Option<usize>
+        ensures { result ≡ answer_place id self.now }
+    {
+        self.as_slice().iter().position(|place| place.id == id)
+    }
+
+    // Whether no id stands twice. The ids stand in an array, since there is no heap.
+    fn is_distinct(&self) -> bool
+        ensures { result ≡ each_once (place_ids (kept_places self.now)) }
+    {
+        let kept = self.as_slice();
+        let mut ids = [0; State::ANSWERS];
+        for (i, place) in kept.iter().enumerate() {
+            ids[i] = place.id;
+        }
+        each_once(&ids[..kept.len()])
+    }
+
+    // Whether none of these has the id of a record.
+    fn is_apart_from(&self, records: &Records) -> bool
+        ensures { result ≡ none_among (place_ids (kept_places self.now)) (ids_of (view records.now)) }
+    {
+        self.as_slice()
+            .iter()
+            .all(|place| !records.contains(place.id))
+    }
+
+    // The places behind those of kept answers.
+    fn behind(&self) -> &[KeptPlace]
+        ensures { result.now ≡ drop self.now.count self.now.places }
+    {
+        if self.count < State::ANSWERS {
+            &self.places[self.count..]
+        } else {
+            &[]
+        }
+    }
+
+    // Whether the places behind these are 0.
+    fn is_free_behind(&self) -> bool
+        ensures { result ≡ list_all is_free (drop self.now.count self.now.places) }
+    {
+        self.behind().iter().all(|place| place.is_free())
+    }
+
+    // Whether these are sound beside the peer's records.
+    #[tactic(auto, unfolding(crate::specs::Kept::sound_kept))]
+    pub fn is_sound(&self, store: &[u8], peer: &Records) -> bool
+        ensures { result ≡ sound_kept (view peer.now) self.now store.now }
+    {
+        if store.len() != State::STORE_OCTETS || State::ANSWERS < self.count {
+            return false;
+        }
+        self.is_distinct()
+            && self.is_apart_from(peer)
+            && self.is_free_behind()
+            && is_store_clear(self.as_slice(), store)
+    }
+
+    // The answer in a place leaves.
+    fn close(&mut self, place: usize)
+        requires within { place < answers }
+        requires some { 1 ≤ self.old.count }
+        ensures { self.new ≡ kept_closed self.old place }
+    {
+        self.places.copy_within(place + 1.., place);
+        self.places[State::ANSWERS - 1] = KeptPlace::UNUSED;
+        self.count -= 1;
     }
 
     // An answer of so many octets takes the next place.
-    pub(crate) fn put(mut self, id: u32, octets: usize) -> Self
-        requires { (self.count < answers) × (octets ≤ answer_octets) }
-        ensures { result ≡ kept_put self id octets }
+    fn put(&mut self, id: u32, octets: usize)
+        requires room { self.old.count < answers }
+        requires short { octets ≤ answer_octets }
+        ensures { self.new ≡ kept_put self.old id octets }
     {
-        let n = self.count;
-        self.ids[n] = id;
-        self.lengths[n] = octets as u32;
-        self.count = n + 1;
-        self
+        self.places[self.count] = KeptPlace {
+            id,
+            length: octets as u32,
+        };
+        self.count += 1;
     }
+
+    // The answer to the id goes last, and the oldest of eight makes room; one of over 512 octets is not kept.
+    pub fn keep(&mut self, store: &mut [u8], id: u32, apdu: &[u8])
+        ensures places { length self.old.places ≡ answers }
+        ensures kept { self.new ≡ kept_next self.old store.old id apdu.now }
+        ensures store { store.new ≡ store_next self.old store.old apdu.now }
+    {
+        if State::ANSWER_OCTETS < apdu.len() {
+            return;
+        }
+        if store.len() != State::STORE_OCTETS {
+            return;
+        }
+        if State::ANSWERS < self.count {
+            return;
+        }
+        if self.count == State::ANSWERS {
+            close_octets(0, store);
+            self.close(0);
+        }
+        put_octets(store, self.count * State::ANSWER_OCTETS, apdu);
+        self.put(id, apdu.len());
+    }
+
+    // The answer to the id leaves, if one is kept.
+    pub fn drop_answer(&mut self, store: &mut [u8], id: u32)
+        ensures places { length self.old.places ≡ answers }
+        ensures kept { self.new ≡ kept_less self.old store.old id }
+        ensures store { store.new ≡ store_less self.old store.old id }
+    {
+        if store.len() != State::STORE_OCTETS {
+            return;
+        }
+        if let Some(place) = self.place(id) {
+            close_octets(place, store);
+            self.close(place);
+        }
+    }
+}
+
+// The octets of a place leave.
+fn close_octets(place: usize, store: &mut [u8])
+    requires store { length store.old ≡ store_octets }
+    requires within { place < answers }
+    ensures { store.new ≡ store_closed store.old place }
+{
+    let at = place * State::ANSWER_OCTETS;
+    store.copy_within(at + State::ANSWER_OCTETS.., at);
+    store[State::STORE_OCTETS - State::ANSWER_OCTETS..].fill(0);
 }

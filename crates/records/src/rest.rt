@@ -1,60 +1,14 @@
-// The ids that rest: document 02, Six. What only reads them is lent their fields.
-ghost use Rattle.std.specs.Prelude.{◌≡◌, cond, List, [], ℕ, leb, take, drop};
-ghost use Rattle.records.specs.Limits.{resting};
-ghost use Rattle.records.specs.Records.{lent, view};
-ghost use Rattle.records.specs.Numbers.{among, all_zero};
-ghost use Rattle.records.specs.Resting.{pack_ids, sound_resting, rested};
+// The ids that rest: docs/RULES.md, 'Ids that rest'.
+ghost use Rattle.std.specs.Prelude.{◌≡◌, [], drop};
+ghost use Rattle.records.specs.Numbers.{among, none_among};
+ghost use Rattle.records.specs.Records.{view, ids_of};
+ghost use Rattle.records.specs.Resting.{view_ids, pack_ids, sound_resting, rested};
 
-use crate::fields::{among, are_ids_clear, each_once, none_among};
-use crate::lent::live;
-use crate::{OwnId, Resting, State};
-
-// Whether the id rests.
-pub fn is_resting(count: usize, ids: &[u32; State::RESTING], id: OwnId) -> bool
-    ensures { result ≡ among id.0 (take count ids.now) }
-{
-    among(live(count, ids), ids, id.0)
-}
-
-// Whether the places from `from` on are unused; no lengths stand beside resting ids.
-fn is_clear(from: usize, ids: &[u32; State::RESTING]) -> bool
-    ensures { result ≡ all_zero (drop from ids.now) }
-{
-    let lengths = [0; State::RESTING];
-    are_ids_clear(from, ids, &lengths)
-}
-
-// Whether the resting ids are sound beside the own side, whose ids are lent too; there are fewer of these, so that each of them is looked for.
-pub fn sound<'a>(
-    count: usize,
-    ids: &'a [u32; State::RESTING],
-    own_count: usize,
-    own_ids: &'a [u32; State::RECORDS],
-) -> bool
-    ensures { (lengths highs lows : List ℕ) → result ≡ sound_resting (view (lent own_count own_ids.now lengths highs lows)) (record { count = count; ids = ids.now }) }
-{
-    if count == 0 {
-        return is_clear(0, ids);
-    }
-    if State::RESTING < count {
-        return false;
-    }
-    each_once(count, ids)
-        & (none_among(live(own_count, own_ids), own_ids, count, ids) & is_clear(count, ids))
-}
-
-// How many of so many ids leave when one more enters.
-fn leaving(n: usize) -> usize
-    ensures { result ≡ cond (leb resting n) 1 0 }
-{
-    if n < State::RESTING {
-        return 0;
-    }
-    1
-}
+use crate::ids::{among, are_zero, each_once};
+use crate::{Record, Records, Resting, State};
 
 impl Resting {
-    pub(crate) fn fresh() -> Self
+    pub fn fresh() -> Self
         ensures { result ≡ pack_ids [] }
     {
         Resting {
@@ -63,23 +17,69 @@ impl Resting {
         }
     }
 
-    // The ids are put down anew, so that every place behind them is unused.
-    pub(crate) fn rest(self, id: u32) -> Self
-        ensures { result ≡ rested self id }
+    // The ids that rest.
+    pub fn as_slice(&self) -> &[u32]
+        ensures { result.now ≡ view_ids self.now }
     {
-        let n = live(self.count, &self.ids);
-        let from = leaving(n);
-        let staying = n - from;
+        if self.count < State::RESTING {
+            &self.ids[..self.count]
+        } else {
+            &self.ids
+        }
+    }
+
+    pub fn contains(&self, id: u32) -> bool
+        ensures { result ≡ among id (view_ids self.now) }
+    {
+        among(self.as_slice(), id)
+    }
+
+    // The id goes last; where 64 rest the oldest leaves. Ids are put down anew, so that every place behind them is 0.
+    pub fn rest(&mut self, id: u32)
+        ensures { self.new ≡ rested self.old id }
+    {
+        let old = self.as_slice();
+        let staying = if old.len() < State::RESTING {
+            old
+        } else {
+            &old[1..]
+        };
+        let n = staying.len();
         let mut ids = [0; State::RESTING];
-        let mut i: usize = 0;
-        while i < staying {
-            ids[i] = self.ids[from + i];
-            i += 1;
+        ids[..n].copy_from_slice(staying);
+        ids[n] = id;
+        self.ids = ids;
+        self.count = n + 1;
+    }
+
+    // The places behind the ids that rest.
+    fn behind(&self) -> &[u32]
+        ensures { result.now ≡ drop self.now.count self.now.ids }
+    {
+        if self.count < State::RESTING {
+            &self.ids[self.count..]
+        } else {
+            &[]
         }
-        ids[staying] = id;
-        Resting {
-            count: staying + 1,
-            ids,
+    }
+
+    // Whether none of these is the id of a record. There are fewer records, so that each of them is looked for.
+    fn is_apart_from(&self, records: &[Record]) -> bool
+        ensures { result ≡ none_among (view_ids self.now) (ids_of records.now) }
+    {
+        records.iter().all(|record| !self.contains(record.id))
+    }
+
+    // Whether these are sound beside the own records; where none rests only that every place is 0 is asked.
+    pub fn is_sound(&self, own: &Records) -> bool
+        ensures { result ≡ sound_resting (view own.now) self.now }
+    {
+        if self.count == 0 {
+            return are_zero(&self.ids);
         }
+        self.count <= State::RESTING
+            && each_once(self.as_slice())
+            && self.is_apart_from(own.as_slice())
+            && are_zero(self.behind())
     }
 }

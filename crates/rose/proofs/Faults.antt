@@ -1,28 +1,27 @@
 -- The place that the answer to a received APDU names is where its octets are at fault.
+use Rattle.std.specs.Prelude.{Option, Some, None}
 use mathlib.Core.Path.{◌≡◌, refl, sym, ap, ◌∙◌}
-use mathlib.Core.Bool.{Bool, true, false, cond}
-use mathlib.Core.List.{List, [], ◌∷◌}
-use Prim.Native.Nat.{ℕ}
-use lib.ListN.{get_or}
+use mathlib.Core.Bool.{Bool, true, false, cond, not}
+use mathlib.Core.List.{List}
+use Prim.Native.Nat.{ℕ, ◌≤◌}
+use lib.ListN.{length, get_or}
 use lib.Dec.{eqb}
-use types.Run.{OneOf}
-use denote.Enum.Declared.{tag_of}
-use Rattle.base.proofs.Keys.{no_key}
+use borrow.Author.Tests.{ltb-false, not-true}
 use Rattle.base.proofs.Tests.{cond_elim, cond_false}
 use Rattle.records.specs.Held.{Held}
-use Rattle.records.specs.Limits.{levels}
+use Rattle.records.specs.Limits.{octets, levels}
 use Rattle.ber.specs.Element.{well_formed, place}
 use Rattle.ber.proofs.FaultLaws.{no_place}
-use Rattle.apdu.specs.declared.Number.TheVariants.{Absent}
-use Rattle.apdu.specs.declared.Parsed.{Parsed}
-use Rattle.apdu.specs.declared.Parsed.TheVariants.{BadlyStructured, Unrecognized, Mistyped, Invoke, Result, Error, InvokeReject, ResultReject, ErrorReject, GeneralReject}
-use Rattle.apdu.specs.contracts.Parsed as parsed
 use Rattle.apdu.specs.Parse.{Apdu, badly_structured, unrecognized, mistyped, invoke, result, error, reject, parse}
-use Rattle.apdu.specs.Reading.{read_parsed}
 use Rattle.apdu.proofs.ValuePlace.{ApduStands, parse_stands}
-use Rattle.protocol.specs.Call.{Refusal, plain, rejecting, Answer, accepted, refused, names_place, place_named}
+use Rattle.protocol.specs.Call.{receive, Refusal, plain, rejecting, Answer, accepted, refused, names_place, place_named}
 use Rattle.protocol.specs.Receive.{fault, receive_apdu}
-use Rattle.rose.specs.Steps.{fault_in}
+use Rattle.protocol.specs.Perform.{later_checks, checks, done, perform}
+use Rattle.protocol.proofs.Checks.{passed}
+use Rattle.rose.specs.Faults.{fault_in}
+use Rattle.rose.specs.Steps.{first}
+use Rattle.rose.proofs.CheckLaws.{none_answers, some_answers, none_passes}
+use Rattle.rose.proofs.Calls.{first_of}
 
 -- no answer to octets that are right names a place
 right_unnamed : (x : List ℕ) (a : Answer) → place levels x ≡ 0 → place_named x a ≡ 0
@@ -31,10 +30,10 @@ right_unnamed x (accepted i s w) e = refl
 right_unnamed x (refused r) e = cond_elim (λ (n : ℕ). n ≡ 0) (names_place r) (place levels x) 0 (λ _. e) (λ _. refl)
 
 -- general 2 and 17 do for others
-structure_named : (x : List ℕ) → place_named x (refused (fault x 2 Absent)) ≡ place levels x
+structure_named : (x : List ℕ) → place_named x (refused (fault x 2 None)) ≡ place levels x
 unfolding place_named fault
 structure_named x =
-    cond_elim (λ (r : Refusal). cond (names_place r) (place levels x) 0 ≡ place levels x) (eqb (get_or x 0 0) 0xA4) (plain 17) (rejecting Absent 0x80 2) (λ _. refl) (λ _. refl)
+    cond_elim (λ (r : Refusal). cond (names_place r) (place levels x) 0 ≡ place levels x) (eqb (get_or x 0 0) 0xA4) (plain 17) (rejecting None 0x80 2) (λ _. refl) (λ _. refl)
 
 stands_fault : (x : List ℕ) (p : Apdu) → ApduStands x p → place levels x ≡ 0 → fault_in p ≡ 0
 stands_fault x (badly_structured p) w e = w ∙ e
@@ -59,25 +58,26 @@ received_place T s x = go (well_formed levels x) refl
         stands_fault x (parse x) (parse_stands x) e ∙ sym (right_unnamed x (receive_apdu T s x (parse x)) e)
     go false q = rw (parse_wrong x q) (sym (structure_named x))
 
--- ---- what was parsed says where
+-- ---- the place that a refusal names, p being where what was parsed is at fault
 
-pub parsed_fault : (x : List ℕ) (r : Parsed) (p : ℕ) → r ≡ BadlyStructured p → p ≡ fault_in (read_parsed x r)
-unfolding read_parsed
-parsed_fault x r p e = ap (λ (q : Parsed). fault_in (read_parsed x q)) (sym e)
+module _ (T : List ℕ) (s : Held) (x : List ℕ) (room : ℕ) (p : ℕ) (e : length x ≤ octets → p ≡ fault_in (parse x)) where
+  named_of : (r : Refusal) → refused r ≡ perform T s (receive x room) → (f : Option Refusal) → first (checks T s (receive x room)) ≡ f → cond (names_place r) p 0 ≡ place_named x (refused r)
+  unfolding place_named perform done later_checks
+  named_of r a (Some q) h =
+      let gives : refused q ≡ refused r = sym (some_answers (checks T s (receive x room)) (done T s (receive x room)) q h) ∙ sym a in
+      let same : q ≡ r = cc in
+      let unnamed : names_place r ≡ false = rw (← same) (not-true (names_place q) (first_of (λ y. not (names_place y)) (checks T s (receive x room)) q refl h)) in
+      rw unnamed refl
+  named_of r a None h =
+      let pass = none_passes (checks T s (receive x room)) h in
+      let short : length x ≤ octets = ltb-false octets (length x) (passed (checks T s (receive x room)) pass 3) in
+      let done_is : refused r ≡ receive_apdu T s x (parse x) = a ∙ none_answers (checks T s (receive x room)) (done T s (receive x room)) h in
+      let here : p ≡ cond (names_place r) (place levels x) 0 = e short ∙ received_place T s x ∙ ap (place_named x) (sym done_is) in
+      go (names_place r) here
+    where
+      go : (b : Bool) → p ≡ cond b (place levels x) 0 → cond b p 0 ≡ cond b (place levels x) 0
+      go true k = k
+      go false k = refl
 
--- the tags of what is no fault of the octets, behind the first
-abbrev others : List ℕ
-others = 2 ∷ 3 ∷ 4 ∷ 5 ∷ 6 ∷ 7 ∷ 8 ∷ 9 ∷ []
-
-pub parsed_other : (x : List ℕ) (r : Parsed) → OneOf (1 ∷ others) (tag_of parsed.the_type r) → 0 ≡ fault_in (read_parsed x r)
-unfolding read_parsed
-parsed_other x (BadlyStructured p) h = absurd (no_key 1 others 0 refl h)
-parsed_other x Unrecognized h = refl
-parsed_other x (Mistyped i) h = refl
-parsed_other x (Invoke i l c v) h = refl
-parsed_other x (Result i b) h = refl
-parsed_other x (Error i c v) h = refl
-parsed_other x (InvokeReject i m) h = refl
-parsed_other x (ResultReject i m) h = refl
-parsed_other x (ErrorReject i m) h = refl
-parsed_other x (GeneralReject i m) h = refl
+  pub refusal_place : (r : Refusal) → refused r ≡ perform T s (receive x room) → cond (names_place r) p 0 ≡ place_named x (refused r)
+  refusal_place r a = named_of r a (first (checks T s (receive x room))) refl

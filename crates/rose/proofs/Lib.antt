@@ -1,12 +1,12 @@
-mod Verdicts
-mod UsableAnswers
-mod WalkAnswers
-mod PartAnswers
-mod Arrivals
-mod Written
-mod ReplyAnswers
-mod ChangeAnswers
-mod ReceptionAnswers
-mod Calls
-mod Faults
-mod ReceiveLaws
+pub mod PlaceLaws
+pub mod GivenLaws
+pub mod LinkLaws
+pub mod ChangeLaws
+pub mod CheckLaws
+pub mod Written
+pub mod Calls
+pub mod ReplyLaws
+pub mod ArrivingLaws
+pub mod ArrivalLaws
+pub mod Faults
+pub mod ReceiveLaws

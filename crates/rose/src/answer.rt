@@ -1,83 +1,59 @@
-// What a call answers, and what a received APDU is answered with.
-ghost use Rattle.std.specs.Prelude.{◌≡◌, cond, length};
-ghost use Rattle.records.specs.Limits.{answers};
-ghost use Rattle.records.specs.State.{put_kept};
-ghost use Rattle.records.specs.Held.{Held};
-ghost use Rattle.protocol.specs.Call.{plain, names_place};
-ghost use Rattle.rose.specs.Steps.{RefusedRequest, RefusedReceive, accepted_request, reception_writes, AllWritten};
+// What a call answers.
+ghost use Rattle.std.specs.Prelude.{◌≡◌, cond};
+ghost use Rattle.protocol.specs.Call.{names_place};
+ghost use Rattle.protocol.specs.Reading.{read_refusal};
+ghost use Rattle.records.specs.declared.State.{State};
+ghost use Rattle.rose.specs.Answers.{requested};
 
-use crate::reply::{Reply, write_reply};
-use crate::verdict::{names_place, refusal};
-use apdu::encode::write_reject;
-use protocol::{Outcome, Received, Reception, Refusal, Requested};
-use records::State;
+use apdu::problem::ProblemKind;
+use protocol::Refusal;
 
-// The place, if a refusal of this number names one.
-fn named(why: u8, place: usize) -> usize
-    ensures { result ≡ cond (names_place (plain why)) place 0 }
+// The place, if the refusal names one; else 0, as the calls answer it.
+#[tactic(auto, unfolding(protocol::specs::Reading::read_refusal))]
+pub(crate) fn place_named(why: Refusal, place: usize) -> usize
+    ensures { result ≡ cond (names_place (read_refusal why)) place 0 }
 {
-    if names_place(why) {
-        return place;
-    }
-    0
-}
-
-// Refused, the value being at fault at a place, if it is.
-#[tactic(auto, unfolding(protocol::specs::Reading::read_outcome))]
-pub(crate) fn refused(state: State, why: u8, place: usize) -> Requested
-    ensures { RefusedRequest state why place result }
-{
-    Requested {
-        state,
-        place: named(why, place),
-        outcome: Outcome::Refused(refusal(why)),
-        written: 0,
+    match why {
+        Refusal::MalformedValue => place,
+        Refusal::TrailingOctets => place,
+        Refusal::UnacceptableReject => place,
+        Refusal::Rejected {
+            id: _,
+            kind,
+            problem,
+        } => if kind == ProblemKind::General && problem == 2 {
+            place
+        } else {
+            0
+        },
+        _ => 0,
     }
 }
 
-pub(crate) fn accepted(state: State, written: usize) -> Requested
-    ensures { result ≡ accepted_request state written }
-{
-    Requested {
-        state,
-        place: 0,
-        outcome: Outcome::Accepted,
-        written,
-    }
+// What a request answers beside the state, as Requested has it.
+#[derive(Clone, Copy)]
+pub(crate) struct Answer {
+    pub place: usize,
+    pub outcome: Result<(), Refusal>,
+    pub written: usize,
 }
 
-#[tactic(auto, unfolding(protocol::specs::Reading::read_reception))]
-pub(crate) fn unheard(state: State, why: u8) -> Received
-    ensures { RefusedReceive state why result }
-{
-    Received {
-        state,
-        place: 0,
-        reception: Reception::Refused(refusal(why)),
-        written: 0,
-    }
-}
-
-// Writes what receive answers itself, if it does, or the Reject of an 18.
-#[tactic(auto, using(protocol::proofs::Refusals::only_rejected, crate::proofs::Written::writes_nothing, crate::proofs::ReceptionAnswers::reply_of, crate::proofs::ReceptionAnswers::reject_of_lem))]
-pub(crate) fn write_answer<'a>(
-    out: &mut [u8],
-    lengths: &'a [u32],
-    store: &'a [u8],
-    reception: Reception,
-    reply: Reply,
-) -> usize
-    requires { length lengths.now ≡ answers }
-    ensures { (s : Held) → AllWritten (reception_writes (record { state = put_kept s.state (record { count = s.state.kept.count; ids = s.state.kept.ids; lengths = lengths.now }); store = store.now }) reception reply) out.old out.new result }
-{
-    match reception {
-        Reception::Indicated(_) => write_reply(out, lengths, store, reply),
-        Reception::Answered => write_reply(out, lengths, store, reply),
-        Reception::Refused(why) => {
-            let Refusal::Rejected { id, kind, problem } = why else {
-                return 0;
-            };
-            write_reject(out, id, kind, problem)
+impl Answer {
+    // To a call that wrote so many octets, or was refused, the value being at fault at a place, if it is.
+    pub(crate) fn of(written: Result<usize, Refusal>, place: usize) -> Self
+        ensures { (s : State) → record { state = s; place = result.place; outcome = result.outcome; written = result.written } ≡ requested s place written }
+    {
+        match written {
+            Ok(written) => Answer {
+                place: 0,
+                outcome: Ok(()),
+                written,
+            },
+            Err(why) => Answer {
+                place: place_named(why, place),
+                outcome: Err(why),
+                written: 0,
+            },
         }
     }
 }

@@ -1,181 +1,193 @@
-// A received APDU: 3 and 2, then the problem that it is refused with, or what it is indicated as.
-ghost use Rattle.std.specs.Prelude.{◌≡◌, true, List, ℕ, length, get_or, eqb};
-ghost use Rattle.records.specs.Records.{lent, lookup};
-ghost use Rattle.records.specs.Held.{Held};
-ghost use Rattle.optable.specs.Validity.{valid};
-ghost use Rattle.apdu.specs.Parse.{invoke, result as result_apdu, error, parse};
+// What becomes of a received APDU that is not refused (docs/RULES.md, 'Receiving').
+ghost use Rattle.std.specs.Prelude.{◌≡◌, ◌<◌, ◌==◌, length, slice_index, ℕ, Ok};
+ghost use Rattle.apdu.specs.Parse.{parse, invoke, result as resulting, error};
 ghost use Rattle.apdu.specs.Reading.{read_own_link, read_value, read_body, read_parsed};
-ghost use Rattle.protocol.specs.Call.{receive, refused};
-ghost use Rattle.protocol.specs.Check.{own_records};
-ghost use Rattle.protocol.specs.Receive.{fault};
-ghost use Rattle.rose.specs.Steps.{found_by, leads_to, StandsAt, Opened, Judged, with_peer_side, with_kept, Answers, Arrives};
+ghost use Rattle.optable.specs.Service.{service_of};
+ghost use Rattle.optable.specs.Class.{class_number};
+ghost use Rattle.protocol.specs.Check.{class_in};
+ghost use Rattle.protocol.specs.Receive.{fault, field_code, invoke_done, receive_apdu};
+ghost use Rattle.protocol.specs.Reading.{read_refusal};
+ghost use Rattle.rose.specs.Arrival.{told};
+ghost use Rattle.rose.specs.Usable.{held, table};
 
-use crate::change::Change;
-use crate::outcome::{Arrival, accept_invoke, indicated, refused, rejected, told};
-use crate::problem::{check_error, check_invoke, check_result, field_code};
-use crate::usable::{Opening, code_found};
-use crate::verdict::Verdict;
-use apdu::{Body, CodeField, Number, OwnLink, Parsed, Value};
-use optable::places::{operation_in, operation_place};
-use optable::room_needed;
+use crate::arriving::{Arriving, check_error, check_invoke, check_result};
+use crate::change::{Change, arriving_record};
+use crate::reply::{Reply, acknowledged, asked, probed};
+use crate::usable::Usable;
+use apdu::problem::ProblemKind;
+use apdu::{Body, Parsed, Span};
+use codes::Code;
+use optable::{Service, service_of};
 use protocol::{Indication, Refusal};
-use records::{OwnId, PeerId, State};
+use records::{OwnId, PeerId};
 
-// The checks of receive behind 19 and 1.
-pub(crate) fn check_receive(opened: Opening, table: &[u8], octets: usize, room: usize) -> Verdict
-    ensures { (s : Held) (x : List ℕ) → Opened table.now s opened.verdict → octets ≡ length x → Judged table.now s (receive x room) result }
-{
-    let verdict = opened.verdict;
-    verdict
-        .then(octets > State::OCTETS, 3)
-        .then(room < room_needed(table), 2)
+#[derive(Clone, Copy)]
+pub(crate) enum Arrival {
+    Indicated(Indication, Change),
+    // Nobody is told of it.
+    Answered(Reply, Change),
 }
 
 fn starts_reject(x: &[u8]) -> bool
-    ensures { result ≡ eqb (get_or x.now 0 0) 0xA4 }
+    ensures { result ≡ (slice_index x.now 0 == 0xA4) }
 {
-    if x.len() == 0 {
-        return false;
-    }
-    x[0] == 0xA4
+    !x.is_empty() && x[0] == 0xA4
 }
 
-// Steps 1 and 2: a general problem, or 17 if the first octet is A4.
-fn arrive_wrong(x: &[u8], number: u8, id: Number) -> Arrival
-    ensures { (s : Held) → Answers x.now s (refused (fault x.now number id)) result }
+// A general problem, by its number as `fault` has it, or 17 if the first octet is A4.
+#[tactic(auto, unfolding(protocol::specs::Receive::fault, protocol::specs::Reading::read_refusal))]
+fn general(x: &[u8], problem: u8, id: Option<u32>) -> Refusal
+    ensures { read_refusal result ≡ fault x.now problem id }
 {
     if starts_reject(x) {
-        return refused(Refusal::UnacceptableReject);
+        return Refusal::UnacceptableReject;
     }
-    refused(Refusal::Rejected {
+    Refusal::Rejected {
         id,
-        kind: 0x80,
-        problem: number,
-    })
+        kind: ProblemKind::General,
+        problem,
+    }
 }
 
-fn arrive_invoke<'a>(
-    opened: Opening,
-    count: usize,
-    ids: &'a [u32; State::RECORDS],
-    kept_count: usize,
-    kept_ids: &'a [u32; State::ANSWERS],
-    table: &[u8],
+// An Invoke that passed its checks: a probe and an acknowledge are answered, any other is indicated.
+#[tactic(auto, unfolding(protocol::specs::Receive::invoke_done, protocol::specs::Reading::read_indication))]
+fn accept_invoke(
+    usable: &Usable,
     x: &[u8],
     id: PeerId,
-    linked: OwnLink,
-    field: CodeField,
-    value: Value,
+    linked: Option<OwnId>,
+    arriving: Arriving,
+    value: Option<Span>,
 ) -> Arrival
-    requires table_valid { valid table.now ≡ true }
-    requires stands { StandsAt table.now opened.found opened.entry }
-    ensures { (s : Held) (lengths highs lows sizes : List ℕ) → opened.found ≡ found_by (read_own_link linked) (own_records s) → Arrives table.now (with_kept (with_peer_side s (lent count ids.now lengths highs lows)) (record { count = kept_count; ids = kept_ids.now; lengths = sizes })) x.now (invoke id.0 (read_own_link linked) field (read_value x.now value)) result }
+    requires { class_number arriving.class ≡ class_in (table usable.now) arriving.code }
+    ensures { told x.now (held usable.now) (Ok result) ≡ invoke_done (table usable.now) (held usable.now) id.0 (read_own_link linked) arriving.code (read_value x.now value) (service_of arriving.code) }
 {
-    let code = field_code(field);
-    let place = operation_place(table, code);
-    match check_invoke(
-        opened, count, ids, table, x, place, id, linked, field, value,
-    ) {
-        Verdict::Fails(number) => rejected(id.0, 0x81, number),
-        Verdict::Passes => accept_invoke(
-            count,
-            ids,
-            kept_count,
-            kept_ids,
-            x,
-            operation_in(table, place).class(),
-            id,
-            linked,
-            code,
-            value,
-        ),
-    }
-}
-
-fn arrive_result(opened: Opening, table: &[u8], x: &[u8], id: OwnId, body: Body) -> Arrival
-    requires table_valid { valid table.now ≡ true }
-    requires stands { StandsAt table.now opened.found opened.entry }
-    ensures { (s : Held) → opened.found ≡ lookup id.0 (own_records s) → Arrives table.now s x.now (result_apdu id.0 (read_body x.now body)) result }
-{
-    let found = opened.found;
-    match check_result(opened, table, x, id, body) {
-        Verdict::Fails(number) => rejected(id.0, 0x82, number),
-        Verdict::Passes => indicated(
-            Indication::Result {
+    let service = service_of(arriving.code);
+    match service {
+        Service::Probe => {
+            let asked = asked(service, x, value);
+            Arrival::Answered(probed(usable, id, asked), Change::Unchanged)
+        }
+        Service::Acknowledge => {
+            let asked = asked(service, x, value);
+            Arrival::Answered(
+                acknowledged(usable, id, asked),
+                Change::Drops(PeerId(asked)),
+            )
+        }
+        Service::Ordinary => Arrival::Indicated(
+            Indication::Invoke {
                 id,
-                body,
-                operation: code_found(found),
+                linked,
+                code: arriving.code,
+                argument: value,
             },
-            Change::Retires(id),
+            arriving_record(arriving.class, id, arriving.code),
         ),
     }
 }
 
-fn arrive_error(
-    opened: Opening,
-    table: &[u8],
+// The fields come one by one out of Parsed here and below: a struct of them would be taken apart by the next call.
+#[tactic(auto, using(crate::proofs::ArrivalLaws::refuses, crate::proofs::ArrivalLaws::accepts), unfolding(protocol::specs::Receive::receive_apdu))]
+fn arrive_invoke(
+    usable: &Usable,
+    x: &[u8],
+    id: PeerId,
+    linked: Option<OwnId>,
+    field: Option<Code>,
+    value: Option<Span>,
+) -> Result<Arrival, Refusal>
+    ensures { told x.now (held usable.now) result ≡ receive_apdu (table usable.now) (held usable.now) x.now (invoke id.0 (read_own_link linked) field (read_value x.now value)) }
+{
+    let arriving = check_invoke(usable, x, id, linked, field, value)?;
+    Ok(accept_invoke(usable, x, id, linked, arriving, value))
+}
+
+#[tactic(auto, using(crate::proofs::ArrivalLaws::refuses, crate::proofs::ArrivalLaws::accepts), unfolding(protocol::specs::Receive::receive_apdu, protocol::specs::Reading::read_indication))]
+fn arrive_result(
+    usable: &Usable,
     x: &[u8],
     id: OwnId,
-    field: CodeField,
-    value: Value,
-) -> Arrival
-    requires table_valid { valid table.now ≡ true }
-    requires stands { StandsAt table.now opened.found opened.entry }
-    ensures { (s : Held) → opened.found ≡ lookup id.0 (own_records s) → Arrives table.now s x.now (error id.0 field (read_value x.now value)) result }
+    body: Option<Body>,
+) -> Result<Arrival, Refusal>
+    ensures { told x.now (held usable.now) result ≡ receive_apdu (table usable.now) (held usable.now) x.now (resulting id.0 (read_body x.now body)) }
 {
-    let found = opened.found;
-    match check_error(opened, table, x, id, field, value) {
-        Verdict::Fails(number) => rejected(id.0, 0x83, number),
-        Verdict::Passes => indicated(
-            Indication::Error {
-                id,
-                code: field_code(field),
-                parameter: value,
-                operation: code_found(found),
-            },
-            Change::Retires(id),
-        ),
+    let operation = check_result(usable, x, id, body)?;
+    Ok(Arrival::Indicated(
+        Indication::Result {
+            id,
+            body,
+            operation,
+        },
+        Change::Retires(id),
+    ))
+}
+
+// Beside `arrive_result`, since other fields are checked and indicated.
+#[tactic(auto, using(crate::proofs::ArrivalLaws::refuses, crate::proofs::ArrivalLaws::accepts), unfolding(protocol::specs::Receive::receive_apdu, protocol::specs::Reading::read_indication))]
+fn arrive_error(
+    usable: &Usable,
+    x: &[u8],
+    id: OwnId,
+    field: Option<Code>,
+    value: Option<Span>,
+) -> Result<Arrival, Refusal>
+    ensures { told x.now (held usable.now) result ≡ receive_apdu (table usable.now) (held usable.now) x.now (error id.0 field (read_value x.now value)) }
+{
+    let operation = check_error(usable, x, id, field, value)?;
+    Ok(Arrival::Indicated(
+        Indication::Error {
+            id,
+            code: field_code(field),
+            parameter: value,
+            operation,
+        },
+        Change::Retires(id),
+    ))
+}
+
+// Local 0 for none, as `field_code` has it.
+fn field_code(field: Option<Code>) -> Code
+    ensures { result ≡ field_code field }
+{
+    match field {
+        Some(code) => code,
+        None => Code::Local(0),
     }
 }
 
-// A received APDU that was parsed, behind 19, 1, 3 and 2, with the own record that it leads to and where its operation stands. Of the Rejects only
-// one of an Invoke retires a record.
-#[tactic(auto, using(crate::proofs::Arrivals::leads_as, crate::proofs::Arrivals::arrives_as, crate::proofs::Arrivals::arrives_wrong, crate::proofs::Arrivals::indicated_as, crate::proofs::Arrivals::on_structure, crate::proofs::Arrivals::on_kind, crate::proofs::Arrivals::on_fields, crate::proofs::Arrivals::on_invoke_reject, crate::proofs::Arrivals::on_result_reject, crate::proofs::Arrivals::on_error_reject, crate::proofs::Arrivals::on_general_reject), unfolding(apdu::specs::Reading::read_parsed))]
-pub(crate) fn arrive<'a>(
-    opened: Opening,
-    count: usize,
-    ids: &'a [u32; State::RECORDS],
-    kept_count: usize,
-    kept_ids: &'a [u32; State::ANSWERS],
-    table: &[u8],
-    x: &[u8],
-    parsed: Parsed,
-) -> Arrival
-    requires table_valid { valid table.now ≡ true }
-    requires stands { StandsAt table.now opened.found opened.entry }
-    requires as_read { read_parsed x.now parsed ≡ parse x.now }
-    ensures { (s : Held) (lengths highs lows sizes : List ℕ) → opened.found ≡ leads_to (parse x.now) (own_records s) → Arrives table.now (with_kept (with_peer_side s (lent count ids.now lengths highs lows)) (record { count = kept_count; ids = kept_ids.now; lengths = sizes })) x.now (parse x.now) result }
+// A received APDU as it was parsed. Of the Rejects only one of an Invoke retires a record.
+#[tactic(auto, unfolding(protocol::specs::Receive::receive_apdu, protocol::specs::Reading::read_indication, apdu::specs::Reading::read_parsed))]
+pub(crate) fn arrive(usable: &Usable, x: &[u8], parsed: Parsed) -> Result<Arrival, Refusal>
+    ensures { told x.now (held usable.now) result ≡ receive_apdu (table usable.now) (held usable.now) x.now (read_parsed x.now parsed) }
 {
     match parsed {
-        Parsed::BadlyStructured { at: _ } => arrive_wrong(x, 2, Number::Absent),
-        Parsed::Unrecognized => arrive_wrong(x, 0, Number::Absent),
-        Parsed::Mistyped(id) => arrive_wrong(x, 1, id),
+        Parsed::BadlyStructured { at: _ } => Err(general(x, 2, None)),
+        Parsed::Unrecognized => Err(general(x, 0, None)),
+        Parsed::Mistyped(id) => Err(general(x, 1, id)),
         Parsed::Invoke {
             id,
             linked,
             code,
             value,
-        } => arrive_invoke(
-            opened, count, ids, kept_count, kept_ids, table, x, id, linked, code, value,
-        ),
-        Parsed::Result { id, body } => arrive_result(opened, table, x, id, body),
-        Parsed::Error { id, code, value } => arrive_error(opened, table, x, id, code, value),
-        Parsed::InvokeReject { id, problem } => indicated(
+        } => arrive_invoke(usable, x, id, linked, code, value),
+        Parsed::Result { id, body } => arrive_result(usable, x, id, body),
+        Parsed::Error { id, code, value } => arrive_error(usable, x, id, code, value),
+        Parsed::InvokeReject { id, problem } => Ok(Arrival::Indicated(
             Indication::InvokeRejected { id, problem },
             Change::Retires(id),
-        ),
-        Parsed::ResultReject { id, problem } => told(Indication::ResultRejected { id, problem }),
-        Parsed::ErrorReject { id, problem } => told(Indication::ErrorRejected { id, problem }),
-        Parsed::GeneralReject { id, problem } => told(Indication::GeneralReject { id, problem }),
+        )),
+        Parsed::ResultReject { id, problem } => Ok(Arrival::Indicated(
+            Indication::ResultRejected { id, problem },
+            Change::Unchanged,
+        )),
+        Parsed::ErrorReject { id, problem } => Ok(Arrival::Indicated(
+            Indication::ErrorRejected { id, problem },
+            Change::Unchanged,
+        )),
+        Parsed::GeneralReject { id, problem } => Ok(Arrival::Indicated(
+            Indication::GeneralReject { id, problem },
+            Change::Unchanged,
+        )),
     }
 }

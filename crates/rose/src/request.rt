@@ -1,192 +1,218 @@
-// The checks of the requests, in document 01's order: each list goes on from the verdict on 19 and 1.
-ghost use Rattle.std.specs.Prelude.{◌≡◌, not, ◌&&◌, List, leb, length, ℕ, ◌-◌};
-ghost use Rattle.base.specs.Lists.{non_empty};
+// The checks of the requests behind those that come first in every call, in their order (docs/RULES.md, 'Requests'), and what is then to be done.
+ghost use Rattle.std.specs.Prelude.{◌≡◌, ◌-◌, not, ◌&&◌, nat_le, length, IfOk};
 ghost use Rattle.records.specs.Limits.{octets, levels};
-ghost use Rattle.records.specs.Records.{lent, view, lookup};
-ghost use Rattle.records.specs.Numbers.{among};
-ghost use Rattle.records.specs.Held.{Held};
+ghost use Rattle.codes.specs.declared.Code.{Code};
 ghost use Rattle.optable.specs.declared.Part.TheVariants.{Operations};
-ghost use Rattle.optable.specs.Lookup.{PlaceOf};
+ghost use Rattle.optable.specs.Lookup.{find};
+ghost use Rattle.optable.specs.Class.{class_number};
 ghost use Rattle.apdu.specs.Reading.{read_peer_link};
-ghost use Rattle.protocol.specs.Call.{invoke, result as result_call, error, reject};
-ghost use Rattle.protocol.specs.Check.{value_well, in_apdu, in_body, peer_records, resting_ids};
-ghost use Rattle.protocol.specs.Perform.{is_user_problem};
-ghost use Rattle.rose.specs.Steps.{with_own_side, found_by, Opens, Judged, ValueChecked};
+ghost use Rattle.protocol.specs.Call.{invoke, result as resulting, error, reject};
+ghost use Rattle.protocol.specs.Check.{peer_records, code_in, class_in};
+ghost use Rattle.protocol.specs.Service.{keeps_answers};
+ghost use Rattle.protocol.specs.Perform.{later_checks, is_user_problem};
+ghost use Rattle.protocol.specs.Reading.{forgetting};
+ghost use Rattle.rose.specs.Usable.{held, table};
+ghost use Rattle.rose.specs.Steps.{Checked};
+ghost use Rattle.rose.specs.Answering.{Answers};
 
-use crate::usable::{
-    Opening, code_found, is_class, is_found, is_missing, is_no_child, is_peer_linked, lacks_room,
-};
-use crate::verdict::Verdict;
+use crate::check::refuse_if;
+use crate::class::{is_either, makes_record};
+use crate::given::Given;
+use crate::linking::{is_no_child, is_paired, peer_parent};
+use crate::usable::{Live, Usable};
 use apdu::encode::{error_size, invoke_size, reject_size, result_size};
-use apdu::{Number, PeerLink};
-use ber::element::{Finding, finding_in, well_formed};
-use codes::{Code, Place};
-use optable::places::{error_in, error_place, is_paired_at, operation_in};
-use optable::read::operation_at;
-use optable::{service_of, value_right};
-use records::lent::has_own;
+use codes::Code;
+use optable::{Class, service_of, value_right};
+use protocol::{Invocation, Refusal};
 use records::{OwnId, PeerId, State};
 
-// A value, empty for none, is one well-formed element of at most so many levels.
-#[tactic(auto, using(crate::proofs::PartAnswers::well_none, crate::proofs::PartAnswers::well_some))]
-fn is_well(value: &[u8], levels: usize) -> bool
-    ensures { result ≡ value_well levels (non_empty value.now) }
-{
-    if value.len() == 0 {
-        return true;
-    }
-    well_formed(value, levels)
-}
-
-// What a request asks of its value: whether it is well-formed as many levels down as it stands, what it is at the full levels, and where it is at fault.
+// An operation that is asked of the peer.
 #[derive(Clone, Copy)]
-pub(crate) struct ValueCheck {
-    pub fits: bool,
-    pub finding: Finding,
-    pub place: usize,
+pub(crate) struct Invoke<'a> {
+    pub id: OwnId,
+    pub code: Code,
+    pub linked: Option<PeerId>,
+    pub value: Given<'a>,
 }
 
-// A value is walked again, at the full levels, only where it is not well-formed as many levels down as it stands.
-#[tactic(auto, using(crate::proofs::PartAnswers::value_fits, crate::proofs::PartAnswers::value_fits_not))]
-pub(crate) fn check_value(value: &[u8], most: usize) -> ValueCheck
-    ensures { (down : ℕ) → most ≡ levels - down → ValueChecked down value.now result }
+// An error that an invocation of the peer's is answered with.
+#[derive(Clone, Copy)]
+pub(crate) struct Erring<'a> {
+    pub id: PeerId,
+    pub code: Code,
+    pub value: Given<'a>,
+}
+
+// An invocation that is answered: its operation, and whether the answer is kept.
+#[derive(Clone, Copy)]
+pub(crate) struct Answering {
+    pub code: Code,
+    pub keeps: bool,
+}
+
+// Whether an APDU of so many octets is past the limits, with this value.
+fn is_large(value: &Given, size: usize) -> bool
+    ensures { result ≡ not (nat_le size octets && value.now.fits) }
 {
-    if is_well(value, most) {
-        return ValueCheck {
-            fits: true,
-            finding: Finding::One,
-            place: 0,
-        };
-    }
-    let finding = finding_in(value, State::LEVELS);
-    ValueCheck {
-        fits: false,
-        finding,
-        place: finding.place(),
-    }
+    State::OCTETS < size || !value.fits
 }
 
-// Whether an APDU of so many octets is past the limits, `fits` saying whether its value is well-formed as many levels down as it stands.
-fn is_large(fits: bool, size: usize) -> bool
-    ensures { result ≡ not (leb size octets && fits) }
+// The class of the operation, which says whether a record is made.
+#[tactic(auto, unfolding(protocol::specs::Perform::later_checks, protocol::specs::Check::within_limits, protocol::specs::Reading::read_refusal, optable::specs::Lookup::operation_of))]
+pub(crate) fn check_invoke(usable: &Usable, request: &Invoke, room: usize) -> Result<Class, Refusal>
+    requires { request.now.value.most ≡ levels - 1 }
+    ensures checked { Checked (later_checks (table usable.now) (held usable.now) (invoke request.now.id.0 request.now.code (read_peer_link request.now.linked) request.now.value.octets.now room)) result }
+    ensures class { IfOk result (λ c. class_number c ≡ class_in (table usable.now) request.now.code) }
 {
-    !((size <= State::OCTETS) & fits)
+    let state = usable.state;
+    let value = &request.value;
+    let place = usable.table.operation_place(request.code);
+    let operation = usable
+        .table
+        .operation_at(place)
+        .ok_or(Refusal::UnknownOperation)?;
+    refuse_if(state.has_own(request.id), Refusal::IdInUse)?;
+    refuse_if(state.is_resting(request.id), Refusal::IdResting)?;
+    refuse_if(
+        !service_of(request.code).answers_itself() && usable.is_busy(),
+        Refusal::SynchronousLive,
+    )?;
+    let parent = peer_parent(usable, request.linked, Refusal::UnknownLinkedId)?;
+    refuse_if(
+        is_no_child(&usable.table, parent, place),
+        Refusal::NotAChild,
+    )?;
+    refuse_if(value.finding.is_fault(), Refusal::MalformedValue)?;
+    refuse_if(value.finding.is_more(), Refusal::TrailingOctets)?;
+    refuse_if(
+        !value_right(operation.argument, value.octets),
+        Refusal::MistypedValue,
+    )?;
+    refuse_if(
+        makes_record(operation.class) && state.own.is_full(),
+        Refusal::RecordsFull,
+    )?;
+    let size = invoke_size(request.id, request.linked, request.code, value.octets);
+    refuse_if(is_large(value, size), Refusal::LargeApdu)?;
+    refuse_if(room < size, Refusal::ShortOutput)?;
+    Ok(operation.class)
 }
 
-// The checks of an invoke behind 19 and 1, given its parent's record, the place of its code, which the call itself needs too, and whether its id rests.
-pub(crate) fn check_invoke(
-    opened: Opening,
-    count: usize,
-    ids: &[u32; State::RECORDS],
-    table: &[u8],
-    place: Place,
-    id: OwnId,
-    code: Code,
-    linked: PeerLink,
-    value: &[u8],
-    checked: ValueCheck,
-    rests: bool,
-    room: usize,
-) -> Verdict
-    ensures { (s : Held) (lengths highs lows : List ℕ) → Opens table.now (with_own_side s (lent count ids.now lengths highs lows)) (length (view (lent count ids.now lengths highs lows))) (found_by (read_peer_link linked) (peer_records s)) opened → PlaceOf table.now Operations code place → ValueChecked in_apdu value.now checked → rests ≡ among id.0 (resting_ids s) → Judged table.now (with_own_side s (lent count ids.now lengths highs lows)) (invoke id.0 code (read_peer_link linked) value.now room) result }
-{
-    let named = operation_in(table, place);
-    let fits = checked.fits;
-    let finding = checked.finding;
-    let size = invoke_size(id, linked, code, value);
-    let is_linked = is_peer_linked(linked);
-    let verdict = opened.verdict;
-    let found = opened.found;
-    verdict
-        .then(!named.is_listed(), 4)
-        .then(has_own(count, ids, id), 5)
-        .then(rests, 22)
-        .then(!service_of(code).answers_itself() & opened.busy, 6)
-        .then(is_missing(is_linked, found), 7)
-        .then(is_no_child(table, is_linked, opened.entry, place), 8)
-        .then(finding.is_fault(), 9)
-        .then(finding.is_more(), 21)
-        .then(!value_right(named.argument(), value), 10)
-        .then(lacks_room(named.class(), count, ids), 14)
-        .then(is_large(fits, size), 15)
-        .then(room < size, 2)
-}
-
-// The checks of a result behind 19 and 1, given the peer record of its id: the state itself is not passed on.
+// The operation of the invocation and whether the answer to it is kept.
+#[tactic(auto, unfolding(protocol::specs::Perform::later_checks, protocol::specs::Check::within_limits, protocol::specs::Reading::read_refusal))]
 pub(crate) fn check_result(
-    opened: Opening,
-    table: &[u8],
+    usable: &Usable,
     id: PeerId,
-    value: &[u8],
-    checked: ValueCheck,
+    value: &Given,
     room: usize,
-) -> Verdict
-    ensures { (s : Held) (asked : ℕ) → Opens table.now s asked (lookup id.0 (peer_records s)) opened → ValueChecked in_body value.now checked → Judged table.now s (result_call id.0 value.now room) result }
+) -> Result<Answering, Refusal>
+    requires { value.now.most ≡ levels - 2 }
+    ensures checked { Checked (later_checks (table usable.now) (held usable.now) (resulting id.0 value.now.octets.now room)) result }
+    ensures done { IfOk result (Answers (table usable.now) (code_in (peer_records (held usable.now)) id.0)) }
 {
-    let found = opened.found;
-    let named = operation_at(table, opened.entry);
-    let fits = checked.fits;
-    let finding = checked.finding;
-    let size = result_size(id, code_found(found), value);
-    let verdict = opened.verdict;
-    verdict
-        .then(!is_found(found), 11)
-        .then(is_class(3, 5, named.class()), 12)
-        .then(finding.is_fault(), 9)
-        .then(finding.is_more(), 21)
-        .then(!value_right(named.result(), value), 10)
-        .then(is_large(fits, size), 15)
-        .then(room < size, 2)
+    let live = usable.peer(id).ok_or(Refusal::NoRecord)?;
+    let operation = live.operation;
+    refuse_if(
+        is_either(operation.class, Class::ErrorOnly, Class::Unanswered),
+        Refusal::WrongClass,
+    )?;
+    refuse_if(value.finding.is_fault(), Refusal::MalformedValue)?;
+    refuse_if(value.finding.is_more(), Refusal::TrailingOctets)?;
+    refuse_if(
+        !value_right(operation.result, value.octets),
+        Refusal::MistypedValue,
+    )?;
+    let size = result_size(id, live.code, value.octets);
+    refuse_if(is_large(value, size), Refusal::LargeApdu)?;
+    refuse_if(room < size, Refusal::ShortOutput)?;
+    Ok(answer_to(usable, live))
 }
 
-// The checks of an error, likewise.
+// The same.
+#[tactic(auto, unfolding(protocol::specs::Perform::later_checks, protocol::specs::Check::within_limits, protocol::specs::Reading::read_refusal, optable::specs::Lookup::error_of))]
 pub(crate) fn check_error(
-    opened: Opening,
-    table: &[u8],
-    id: PeerId,
-    code: Code,
-    value: &[u8],
-    checked: ValueCheck,
+    usable: &Usable,
+    request: &Erring,
     room: usize,
-) -> Verdict
-    ensures { (s : Held) (asked : ℕ) → Opens table.now s asked (lookup id.0 (peer_records s)) opened → ValueChecked in_apdu value.now checked → Judged table.now s (error id.0 code value.now room) result }
+) -> Result<Answering, Refusal>
+    requires { request.now.value.most ≡ levels - 1 }
+    ensures checked { Checked (later_checks (table usable.now) (held usable.now) (error request.now.id.0 request.now.code request.now.value.octets.now room)) result }
+    ensures done { IfOk result (Answers (table usable.now) (code_in (peer_records (held usable.now)) request.now.id.0)) }
 {
-    let found = opened.found;
-    let used = operation_at(table, opened.entry);
-    let place = error_place(table, code);
-    let named = error_in(table, place);
-    let fits = checked.fits;
-    let finding = checked.finding;
-    let size = error_size(id, code, value);
-    let verdict = opened.verdict;
-    verdict
-        .then(!is_found(found), 11)
-        .then(is_class(4, 5, used.class()), 12)
-        .then(
-            !(named.is_known() & is_paired_at(table, Place::At(opened.entry), place)),
-            13,
-        )
-        .then(finding.is_fault(), 9)
-        .then(finding.is_more(), 21)
-        .then(!value_right(named.parameter(), value), 10)
-        .then(is_large(fits, size), 15)
-        .then(room < size, 2)
+    let value = &request.value;
+    let live = usable.peer(request.id).ok_or(Refusal::NoRecord)?;
+    refuse_if(
+        is_either(live.operation.class, Class::ResultOnly, Class::Unanswered),
+        Refusal::WrongClass,
+    )?;
+    let place = usable.table.error_place(request.code);
+    let parameter = usable.table.error_at(place).ok_or(Refusal::UnlistedError)?;
+    refuse_if(
+        !is_paired(&usable.table, live, place),
+        Refusal::UnlistedError,
+    )?;
+    refuse_if(value.finding.is_fault(), Refusal::MalformedValue)?;
+    refuse_if(value.finding.is_more(), Refusal::TrailingOctets)?;
+    refuse_if(
+        !value_right(parameter, value.octets),
+        Refusal::MistypedValue,
+    )?;
+    let size = error_size(request.id, request.code, value.octets);
+    refuse_if(is_large(value, size), Refusal::LargeApdu)?;
+    refuse_if(room < size, Refusal::ShortOutput)?;
+    Ok(answer_to(usable, live))
 }
 
+// What answering an invocation that is live does.
+#[tactic(auto, unfolding(protocol::specs::Service::keeps_answers, optable::specs::Lookup::idempotent_of))]
+fn answer_to(usable: &Usable, live: Live) -> Answering
+    ensures { (c : Code) → live.code ≡ c → live.place ≡ find (table usable.now) Operations c → Answers (table usable.now) c result }
+{
+    Answering {
+        code: live.code,
+        keeps: !usable.table.is_idempotent_at(live.place)
+            && !service_of(live.code).answers_itself(),
+    }
+}
+
+// Any octet may come here and below, as `reject` takes it.
 fn is_user_problem(problem: u8) -> bool
     ensures { result ≡ is_user_problem problem }
 {
-    (problem == 2) | ((problem == 3) | (problem == 4))
+    problem == 2 || problem == 3 || problem == 4
 }
 
-pub(crate) fn check_reject(opened: Opening, id: PeerId, problem: u8, room: usize) -> Verdict
-    ensures { (T : List ℕ) (s : Held) (asked : ℕ) → Opens T s asked (lookup id.0 (peer_records s)) opened → Judged T s (reject id.0 problem room) result }
+#[tactic(auto, unfolding(protocol::specs::Perform::later_checks, protocol::specs::Reading::read_refusal))]
+pub(crate) fn check_reject(
+    usable: &Usable,
+    id: PeerId,
+    problem: u8,
+    room: usize,
+) -> Result<(), Refusal>
+    ensures { Checked (later_checks (table usable.now) (held usable.now) (reject id.0 problem room)) result }
 {
-    let size = reject_size(Number::Of(id.0));
-    let verdict = opened.verdict;
-    let found = opened.found;
-    verdict
-        .then(!is_user_problem(problem), 16)
-        .then(!is_found(found), 11)
-        .then(room < size, 2)
+    refuse_if(!is_user_problem(problem), Refusal::WrongProblem)?;
+    refuse_if(!usable.state.has_peer(id), Refusal::NoRecord)?;
+    refuse_if(room < reject_size(Some(id.0)), Refusal::ShortOutput)
+}
+
+// Retires an own record, or a peer record whose class is neither 1 nor 2.
+#[tactic(auto, unfolding(protocol::specs::Perform::later_checks, protocol::specs::Reading::read_refusal))]
+pub(crate) fn check_forget(usable: &Usable, invocation: Invocation) -> Result<(), Refusal>
+    ensures { Checked (later_checks (table usable.now) (held usable.now) (forgetting invocation)) result }
+{
+    match invocation {
+        Invocation::Own(id) => refuse_if(!usable.state.has_own(id), Refusal::NoRecord),
+        Invocation::Peer(id) => {
+            let live = usable.peer(id).ok_or(Refusal::NoRecord)?;
+            refuse_if(
+                is_either(
+                    live.operation.class,
+                    Class::Synchronous,
+                    Class::Asynchronous,
+                ),
+                Refusal::WrongClass,
+            )
+        }
+    }
 }

@@ -1,134 +1,148 @@
-// The four requests: document 01, 'Requests, in order of check'.
-ghost use Rattle.std.specs.Prelude.{[], length};
+// The four requests and forget (docs/RULES.md, 'Requests'). Each call stands by itself, and takes what 'The six calls' of README has, one by one, with
+// the state by value.
+ghost use Rattle.std.specs.Prelude.{◌≡◌, ◌-◌, [], length};
+ghost use Rattle.records.specs.Limits.{levels};
 ghost use Rattle.apdu.specs.Reading.{read_peer_link};
-ghost use Rattle.protocol.specs.Call.{invoke, result as result_call, error, reject};
+ghost use Rattle.protocol.specs.Call.{invoke, result as resulting, error, reject};
 ghost use Rattle.protocol.specs.Perform.{perform};
-ghost use Rattle.protocol.specs.Reading.{RequestPromise};
+ghost use Rattle.protocol.specs.Reading.{forgetting, RequestPromise};
+ghost use Rattle.rose.specs.Answers.{Requests};
 
-use crate::answer::{accepted, refused};
-use crate::change::{answered, with_own};
-use crate::request::{check_error, check_invoke, check_reject, check_result, check_value};
-use crate::usable::{Sought, code_found, keeps_answers, opening_of, peer_parent};
-use crate::verdict::Verdict;
+use crate::answer::Answer;
+use crate::change::{add_own, answered, retire};
+use crate::given::Given;
+use crate::request::{
+    Erring, Invoke, check_error, check_forget, check_invoke, check_reject, check_result,
+};
+use crate::usable::Usable;
 use apdu::encode::{write_error, write_invoke, write_reject, write_result};
-use apdu::{Number, PeerLink};
 use base::octets::between;
 use codes::Code;
-use optable::places::{operation_in, operation_place};
-use protocol::Requested;
-use records::lent::live;
-use records::rest::is_resting;
+use protocol::{Invocation, Refusal, Requested};
 use records::{OwnId, PeerId, State};
+
+// The call in place: how many octets are written.
+fn send_invoke(
+    state: &mut State,
+    store: &[u8],
+    table: &[u8],
+    request: &Invoke,
+    out: &mut [u8],
+) -> Result<usize, Refusal>
+    requires { request.now.value.most ≡ levels - 1 }
+    ensures { Requests table.now (record { state = state.old; store = store.now }) (invoke request.now.id.0 request.now.code (read_peer_link request.now.linked) request.now.value.octets.now (length out.old)) request.now.value.octets.now (record { state = state.new; store = store.now }) out.old out.new result }
+{
+    let usable = Usable::new(state, store, table)?;
+    let class = check_invoke(&usable, request, out.len())?;
+    let written = write_invoke(
+        out,
+        request.id,
+        request.linked,
+        request.code,
+        request.value.octets,
+    );
+    add_own(state, class, request.id, request.code);
+    Ok(written)
+}
 
 // Requests an operation of the peer; an empty value is none.
 pub fn invoke(
-    state: State,
+    mut state: State,
     store: &[u8],
     table: &[u8],
     id: OwnId,
     code: Code,
-    linked: PeerLink,
+    linked: Option<PeerId>,
     value: &[u8],
     out: &mut [u8],
 ) -> Requested
     ensures { RequestPromise (perform table.now (record { state = state; store = store.now }) (invoke id.0 code (read_peer_link linked) value.now (length out.old))) (record { state = state; store = store.now }) store.now value.now out.old out.new result }
 {
-    let opened = opening_of(
-        state.own.count,
-        &state.own.ids,
-        &state.own.lengths,
-        &state.own.highs,
-        &state.own.lows,
-        state.peer.count,
-        &state.peer.ids,
-        &state.peer.lengths,
-        &state.peer.highs,
-        &state.peer.lows,
-        state.resting.count,
-        &state.resting.ids,
-        state.kept.count,
-        &state.kept.ids,
-        &state.kept.lengths,
-        store,
-        table,
-        live(state.own.count, &state.own.ids),
-        peer_parent(linked),
-    );
-    let rests = is_resting(state.resting.count, &state.resting.ids, id);
-    let place = operation_place(table, code);
-    let checked = check_value(value, State::LEVELS - 1);
-    match check_invoke(
-        opened,
-        state.own.count,
-        &state.own.ids,
-        table,
-        place,
+    let value = Given::new(value, State::LEVELS - 1);
+    let request = Invoke {
         id,
         code,
         linked,
         value,
-        checked,
-        rests,
-        out.len(),
-    ) {
-        Verdict::Fails(why) => refused(state, why, checked.place),
-        Verdict::Passes => {
-            let written = write_invoke(out, id, linked, code, value);
-            let next = with_own(state, operation_in(table, place).class(), id, code);
-            accepted(next, written)
-        }
+    };
+    let sent = send_invoke(&mut state, store, table, &request, out);
+    let answer = Answer::of(sent, value.place());
+    Requested {
+        state,
+        place: answer.place,
+        outcome: answer.outcome,
+        written: answer.written,
     }
+}
+
+// The same.
+fn send_result(
+    state: &mut State,
+    store: &mut [u8],
+    table: &[u8],
+    id: PeerId,
+    value: &Given,
+    out: &mut [u8],
+) -> Result<usize, Refusal>
+    requires { value.now.most ≡ levels - 2 }
+    ensures { Requests table.now (record { state = state.old; store = store.old }) (resulting id.0 value.now.octets.now (length out.old)) value.now.octets.now (record { state = state.new; store = store.new }) out.old out.new result }
+{
+    let usable = Usable::new(state, store, table)?;
+    let answering = check_result(&usable, id, value, out.len())?;
+    let written = write_result(out, id, answering.code, value.octets);
+    answered(state, store, answering.keeps, id, between(out, 0, written));
+    Ok(written)
 }
 
 // Answers an invocation of the peer's with a result; an empty value is none.
 pub fn result(
-    state: State,
+    mut state: State,
     store: &mut [u8],
     table: &[u8],
     id: PeerId,
     value: &[u8],
     out: &mut [u8],
 ) -> Requested
-    ensures { RequestPromise (perform table.now (record { state = state; store = store.old }) (result_call id.0 value.now (length out.old))) (record { state = state; store = store.old }) store.new value.now out.old out.new result }
+    ensures { RequestPromise (perform table.now (record { state = state; store = store.old }) (resulting id.0 value.now (length out.old))) (record { state = state; store = store.old }) store.new value.now out.old out.new result }
 {
-    let opened = opening_of(
-        state.own.count,
-        &state.own.ids,
-        &state.own.lengths,
-        &state.own.highs,
-        &state.own.lows,
-        state.peer.count,
-        &state.peer.ids,
-        &state.peer.lengths,
-        &state.peer.highs,
-        &state.peer.lows,
-        state.resting.count,
-        &state.resting.ids,
-        state.kept.count,
-        &state.kept.ids,
-        &state.kept.lengths,
-        store,
-        table,
-        0,
-        Sought::Peer(id),
-    );
-    let checked = check_value(value, State::LEVELS - 2);
-    match check_result(opened, table, id, value, checked, out.len()) {
-        Verdict::Fails(why) => refused(state, why, checked.place),
-        Verdict::Passes => {
-            let found = opened.found;
-            let code = code_found(found);
-            let written = write_result(out, id, code, value);
-            let keeps = keeps_answers(table, opened.entry, code);
-            let next = answered(state, store, keeps, id, between(out, 0, written));
-            accepted(next, written)
-        }
+    let value = Given::new(value, State::LEVELS - 2);
+    let sent = send_result(&mut state, store, table, id, &value, out);
+    let answer = Answer::of(sent, value.place());
+    Requested {
+        state,
+        place: answer.place,
+        outcome: answer.outcome,
+        written: answer.written,
     }
+}
+
+// The same.
+fn send_error(
+    state: &mut State,
+    store: &mut [u8],
+    table: &[u8],
+    request: &Erring,
+    out: &mut [u8],
+) -> Result<usize, Refusal>
+    requires { request.now.value.most ≡ levels - 1 }
+    ensures { Requests table.now (record { state = state.old; store = store.old }) (error request.now.id.0 request.now.code request.now.value.octets.now (length out.old)) request.now.value.octets.now (record { state = state.new; store = store.new }) out.old out.new result }
+{
+    let usable = Usable::new(state, store, table)?;
+    let answering = check_error(&usable, request, out.len())?;
+    let written = write_error(out, request.id, request.code, request.value.octets);
+    answered(
+        state,
+        store,
+        answering.keeps,
+        request.id,
+        between(out, 0, written),
+    );
+    Ok(written)
 }
 
 // Answers an invocation of the peer's with an error; an empty value is none.
 pub fn error(
-    state: State,
+    mut state: State,
     store: &mut [u8],
     table: &[u8],
     id: PeerId,
@@ -138,43 +152,40 @@ pub fn error(
 ) -> Requested
     ensures { RequestPromise (perform table.now (record { state = state; store = store.old }) (error id.0 code value.now (length out.old))) (record { state = state; store = store.old }) store.new value.now out.old out.new result }
 {
-    let opened = opening_of(
-        state.own.count,
-        &state.own.ids,
-        &state.own.lengths,
-        &state.own.highs,
-        &state.own.lows,
-        state.peer.count,
-        &state.peer.ids,
-        &state.peer.lengths,
-        &state.peer.highs,
-        &state.peer.lows,
-        state.resting.count,
-        &state.resting.ids,
-        state.kept.count,
-        &state.kept.ids,
-        &state.kept.lengths,
-        store,
-        table,
-        0,
-        Sought::Peer(id),
-    );
-    let checked = check_value(value, State::LEVELS - 1);
-    match check_error(opened, table, id, code, value, checked, out.len()) {
-        Verdict::Fails(why) => refused(state, why, checked.place),
-        Verdict::Passes => {
-            let found = opened.found;
-            let written = write_error(out, id, code, value);
-            let keeps = keeps_answers(table, opened.entry, code_found(found));
-            let next = answered(state, store, keeps, id, between(out, 0, written));
-            accepted(next, written)
-        }
+    let value = Given::new(value, State::LEVELS - 1);
+    let request = Erring { id, code, value };
+    let sent = send_error(&mut state, store, table, &request, out);
+    let answer = Answer::of(sent, value.place());
+    Requested {
+        state,
+        place: answer.place,
+        outcome: answer.outcome,
+        written: answer.written,
     }
 }
 
+// The same.
+fn send_reject(
+    state: &mut State,
+    store: &[u8],
+    table: &[u8],
+    id: PeerId,
+    problem: u8,
+    out: &mut [u8],
+) -> Result<usize, Refusal>
+    ensures { Requests table.now (record { state = state.old; store = store.now }) (reject id.0 problem (length out.old)) [] (record { state = state.new; store = store.now }) out.old out.new result }
+{
+    let usable = Usable::new(state, store, table)?;
+    check_reject(&usable, id, problem, out.len())?;
+    let written = write_reject(out, Some(id.0), 0x81, problem);
+    state.peer.take_out(id.0);
+    Ok(written)
+}
+
 // Rejects an invocation of the peer's with invoke problem 2, 3 or 4.
+#[tactic(auto, using(crate::proofs::GivenLaws::no_octets))]
 pub fn reject(
-    state: State,
+    mut state: State,
     store: &[u8],
     table: &[u8],
     id: PeerId,
@@ -183,32 +194,42 @@ pub fn reject(
 ) -> Requested
     ensures { RequestPromise (perform table.now (record { state = state; store = store.now }) (reject id.0 problem (length out.old))) (record { state = state; store = store.now }) store.now [] out.old out.new result }
 {
-    let opened = opening_of(
-        state.own.count,
-        &state.own.ids,
-        &state.own.lengths,
-        &state.own.highs,
-        &state.own.lows,
-        state.peer.count,
-        &state.peer.ids,
-        &state.peer.lengths,
-        &state.peer.highs,
-        &state.peer.lows,
-        state.resting.count,
-        &state.resting.ids,
-        state.kept.count,
-        &state.kept.ids,
-        &state.kept.lengths,
-        store,
-        table,
-        0,
-        Sought::Peer(id),
-    );
-    match check_reject(opened, id, problem, out.len()) {
-        Verdict::Fails(why) => refused(state, why, 0),
-        Verdict::Passes => {
-            let written = write_reject(out, Number::Of(id.0), 0x81, problem);
-            accepted(state.retire_peer(id), written)
-        }
+    let sent = send_reject(&mut state, store, table, id, problem, out);
+    let answer = Answer::of(sent, 0);
+    Requested {
+        state,
+        place: answer.place,
+        outcome: answer.outcome,
+        written: answer.written,
+    }
+}
+
+// The call in place: nothing is written.
+fn forget_record(
+    state: &mut State,
+    store: &[u8],
+    table: &[u8],
+    invocation: Invocation,
+) -> Result<usize, Refusal>
+    ensures { Requests table.now (record { state = state.old; store = store.now }) (forgetting invocation) [] (record { state = state.new; store = store.now }) [] [] result }
+{
+    let usable = Usable::new(state, store, table)?;
+    check_forget(&usable, invocation)?;
+    retire(state, invocation);
+    Ok(0)
+}
+
+// Retires an own record, whose id then rests, or a peer record whose class is neither 1 nor 2, with nothing sent.
+#[tactic(auto, using(crate::proofs::GivenLaws::no_octets))]
+pub fn forget(mut state: State, store: &[u8], table: &[u8], invocation: Invocation) -> Requested
+    ensures { RequestPromise (perform table.now (record { state = state; store = store.now }) (forgetting invocation)) (record { state = state; store = store.now }) store.now [] [] [] result }
+{
+    let sent = forget_record(&mut state, store, table, invocation);
+    let answer = Answer::of(sent, 0);
+    Requested {
+        state,
+        place: answer.place,
+        outcome: answer.outcome,
+        written: answer.written,
     }
 }

@@ -4,118 +4,97 @@
 mod extension;
 
 use extension::compare;
-use listing::files::{Contents, file_name, is_argument, table_buffer};
+use listing::files::{Program, is_argument, read, table_buffer};
+use listing::{FaultWords, Listing, Reason};
 use optable::{Fault, first_fault};
+use std::fmt;
+use std::fmt::Write as _;
 use std::io::Write;
 use std::rt::{Env, Files};
 use text::input::argument_count;
-use text::out::{Out, decimal, words};
+use text::out::{Out, words};
 
-pub(crate) fn say(out: &mut Out<impl Write>, s: &[u8]) {
-    words(out, s);
+const TABCHECK: Program = Program {
+    name: "tabcheck",
+    usage: "tabcheck FILE... or tabcheck --extends OLD NEW",
+};
+
+// Where the program writes.
+#[derive(Drop)]
+pub(crate) struct Streams<O: Write + Drop, E: Write + Drop> {
+    pub(crate) out: Out<O>,
+    pub(crate) err: Out<E>,
 }
 
-fn report_valid(out: &mut Out<impl Write>, table: &[u8]) {
-    say(out, b": valid, ");
-    decimal(out, table.len() as u64);
-    say(out, b" octets\n");
-    listing::print_table(out, table);
+// A table's fault, where a longer file is no table.
+#[derive(Clone, Copy)]
+pub(crate) struct Faulty<'a> {
+    pub(crate) table: &'a [u8],
+    pub(crate) fault: Fault,
 }
 
-pub(crate) fn report_fault(out: &mut Out<impl Write>, table: &[u8], fault: Fault) {
-    if table.len() > 5144 {
-        say(
-            out,
-            b": longer than any table, which has at most 5144 octets\n",
-        );
-        return;
-    }
-    say(out, b": ");
-    listing::print_fault(out, table, fault);
-}
-
-fn report(out: &mut Out<impl Write>, name: &[u8], table: &[u8]) {
-    say(out, name);
-    let fault = first_fault(table);
-    if fault.is_nothing() {
-        report_valid(out, table);
-        return;
-    }
-    report_fault(out, table, fault);
-}
-
-fn check_file(
-    rt: &impl Files,
-    out: &mut Out<impl Write>,
-    err: &mut Out<impl Write>,
-    name: &[u8],
-    table: &mut [u8],
-) {
-    match listing::files::read(rt, err, name, table) {
-        Contents::Of(size) => {
-            if size <= table.len() {
-                report(out, name, &table[0..size]);
-            }
+impl fmt::Display for Faulty<'_> {
+    fn fmt<W: fmt::Write>(&self, f: &mut fmt::Formatter<W>) -> fmt::Result {
+        if self.table.len() > 5144 {
+            return write!(f, "longer than any table, which has at most 5144 octets");
         }
-        Contents::Unreadable => {}
+        let reason = Reason {
+            table: self.table,
+            fault: self.fault,
+        };
+        write!(f, "{}", FaultWords(reason))
     }
 }
 
-fn check_argument(
+// What is said of a table behind the name of its file.
+fn report(out: &mut Out<impl Write>, table: &[u8]) -> fmt::Result {
+    match first_fault(table) {
+        Ok(()) => write!(out, ": valid, {} octets\n{}", table.len(), Listing(table)),
+        Err(fault) => writeln!(out, ": {}", Faulty { table, fault }),
+    }
+}
+
+// The table whose file an argument names, read into the buffer. Its name and the buffer are arrays, since there is no heap.
+fn check<O: Write + Drop, E: Write + Drop>(
     rt: &(impl Env + Files),
-    out: &mut Out<impl Write>,
-    err: &mut Out<impl Write>,
+    streams: &mut Streams<O, E>,
     i: usize,
-    table: &mut [u8],
-) {
+    buffer: &mut [u8],
+) -> Option<()> {
     let mut name = [0u8; 4096];
-    let n = file_name(
-        rt,
-        err,
-        b"tabcheck",
-        b"tabcheck FILE... or tabcheck --extends OLD NEW",
-        i,
-        &mut name,
-    );
-    if n > 0 {
-        check_file(rt, out, err, &name[..n], table);
-    }
+    let name = TABCHECK.file_name(rt, &mut streams.err, i, &mut name)?;
+    let table = read(rt, &mut streams.err, name, buffer)?;
+    words(&mut streams.out, name);
+    report(&mut streams.out, table).ok()
 }
 
-fn check_all(
-    rt: &(impl Env + Files),
-    out: &mut Out<impl Write>,
-    err: &mut Out<impl Write>,
-    count: usize,
-    table: &mut [u8],
-) {
-    for i in 1..count {
-        check_argument(rt, out, err, i, table);
-    }
-}
-
-// What the arguments ask for.
-fn answer(rt: &(impl Env + Files), out: &mut Out<impl Write>, err: &mut Out<impl Write>) {
+// What the arguments ask for. Of a file that is no table, the others are checked all the same.
+fn answer<O: Write + Drop, E: Write + Drop>(rt: &(impl Env + Files), streams: &mut Streams<O, E>) {
     let count = argument_count(rt);
     if count < 2 {
-        words(
-            err,
-            b"tabcheck: name the files of the tables to check: tabcheck FILE... or tabcheck --extends OLD NEW\n",
+        let _ = writeln!(
+            streams.err,
+            "tabcheck: name the files of the tables to check: {}",
+            TABCHECK.usage
         );
         return;
     }
     if is_argument(rt, 1, b"--extends") {
-        compare(rt, out, err, count);
+        let _ = compare(rt, streams, count);
         return;
     }
     let mut table = table_buffer();
-    check_all(rt, out, err, count, &mut table);
+    for i in 1..count {
+        let _ = check(rt, streams, i, &mut table);
+    }
 }
 
 fn main(rt: HostRuntime) {
-    let mut out = Out::new(rt.stdout());
-    let mut err = Out::new(rt.stderr());
-    answer(&rt, &mut out, &mut err);
-    out.flush();
-    err.flush();
+    let mut streams = Streams {
+        out: Out::new(rt.stdout()),
+        err: Out::new(rt.stderr()),
+    };
+    answer(&rt, &mut streams);
+    streams.out.flush();
+    streams.err.flush();
 }

@@ -1,45 +1,10 @@
-// The octets of a table: its entries one behind the other, and its header.
-ghost use Rattle.std.specs.Prelude.{◌≤◌};
-
+// The octets of a table: its header, and its entries one behind the other.
 use crate::entry::Entry;
 use crate::reason::Reason;
-use codes::{Code, Key, Name, Place};
-use optable::read::{code_at, count, end, name_at, second_part};
-use optable::{Edition, Part, Rule};
-use text::{put, words};
-
-// Where the table's entries end, and what is wrong with the line that was taken last.
-#[derive(Clone, Copy)]
-pub(crate) struct Taken {
-    pub(crate) end: usize,
-    pub(crate) reason: Reason,
-}
-
-fn ended(end: usize) -> Taken {
-    Taken {
-        end,
-        reason: Reason::Nothing,
-    }
-}
-
-fn two(table: &mut [u8], at: usize, x: u16) -> usize {
-    let a = put(table, at, (x / 256) as u8);
-    put(table, a, (x % 256) as u8)
-}
-
-fn four(table: &mut [u8], at: usize, x: u32) -> usize {
-    let a = two(table, at, (x / 65536) as u16);
-    two(table, a, (x % 65536) as u16)
-}
-
-fn flag(is_set: bool, value: u8) -> u8
-    ensures { result ≤ value }
-{
-    if is_set {
-        return value;
-    }
-    0
-}
+use codes::{Code, Key, Name};
+use optable::read::{code_at, count, end, has_part, header_of, name_at, second_part, start};
+use optable::{Edition, Operation, Part, Rule};
+use text::words;
 
 // The code of an entry, or the name that it is.
 fn listed_at(table: &[u8], part: Part, i: u16) -> Code {
@@ -49,178 +14,136 @@ fn listed_at(table: &[u8], part: Part, i: u16) -> Code {
     }
 }
 
-// Where a code stands among the entries of a part that is written.
-fn index_of(table: &[u8], part: Part, code: Code) -> Place {
-    for i in 0..count(table, part) {
-        if listed_at(table, part, i).same(code) {
-            return Place::At(i);
-        }
-    }
-    Place::Nowhere
-}
-
-// How a code is to stand in an entry, where its name has a line.
-#[derive(Clone, Copy)]
-enum Keyed {
-    As(Key),
-    Nowhere,
-}
-
-fn key_of(table: &[u8], code: Code) -> Keyed {
-    match code {
-        Code::Local(number) => Keyed::As(Key {
-            named: false,
-            number,
-        }),
-        Code::Global(_) => match index_of(table, Part::Names, code) {
-            Place::At(i) => Keyed::As(Key {
-                named: true,
-                number: i as u32,
-            }),
-            Place::Nowhere => Keyed::Nowhere,
-        },
-    }
-}
-
-fn no_line(end: usize, part: Part, code: Code) -> Taken {
-    Taken {
-        end,
-        reason: Reason::NoLine { part, code },
-    }
-}
-
-fn put_operation(
-    table: &mut [u8],
+// A table, and the place where the next octets are put: names are put first and stand last, so that octets are not only added behind others.
+#[derive(Drop)]
+pub(crate) struct Maker<'a> {
+    table: &'a mut [u8],
     at: usize,
-    code: Code,
-    class: u8,
-    argument: Rule,
-    result_rule: Rule,
-    idempotent: bool,
-) -> Taken {
-    let Keyed::As(key) = key_of(table, code) else {
-        return no_line(at, Part::Names, code);
-    };
-    let a = four(table, at, key.number);
-    let b = put(table, a, class);
-    let c = put(table, b, argument.identifier);
-    let d = put(table, c, result_rule.identifier);
-    let optional = flag(argument.optional, 1) + flag(result_rule.optional, 2);
-    let flags = optional + flag(key.named, 4) + flag(idempotent, 8);
-    ended(put(table, d, flags))
 }
 
-fn put_error(table: &mut [u8], at: usize, code: Code, parameter: Rule) -> Taken {
-    let Keyed::As(key) = key_of(table, code) else {
-        return no_line(at, Part::Names, code);
-    };
-    let a = four(table, at, key.number);
-    let b = put(table, a, parameter.identifier);
-    let flags = flag(parameter.optional, 1) + flag(key.named, 2);
-    ended(put(table, b, flags))
+// Whether a flag says that the code is the index of a name.
+fn is_named(key: Key) -> bool {
+    matches!(key, Key::Index(_))
 }
 
-fn put_name(table: &mut [u8], at: usize, name: Name) -> usize {
-    let octets = name.octets();
-    let a = put(table, at, name.length);
-    words(table, a, &octets)
-}
-
-fn put_pair(table: &mut [u8], at: usize, part: Part, first: Code, second: Code) -> Taken {
-    let Place::At(i) = index_of(table, Part::Operations, first) else {
-        return no_line(at, Part::Operations, first);
-    };
-    let Place::At(j) = index_of(table, second_part(part), second) else {
-        return no_line(at, second_part(part), second);
-    };
-    let a = two(table, at, i);
-    ended(two(table, a, j))
-}
-
-// Where the count of the first part stands in the header.
-fn counts_at(e: Edition) -> usize
-    ensures { result ≤ 4 }
-{
-    match e {
-        Edition::First => 0,
-        Edition::Second => 4,
+impl<'a> Maker<'a> {
+    // At the first octet of a table.
+    pub(crate) fn at_header(table: &'a mut [u8]) -> Self {
+        Maker { table, at: 0 }
     }
-}
 
-// Where a part's count stands behind that of the first; its offset stands behind it.
-fn head_of(part: Part) -> usize
-    ensures { result ≤ 16 }
-{
-    match part {
-        Part::Operations => 0,
-        Part::Errors => 4,
-        Part::ErrorPairs => 8,
-        Part::ChildPairs => 12,
-        Part::Names => 16,
+    // At the first entry of a part, where the header says that it starts.
+    pub(crate) fn at_part(table: &'a mut [u8], part: Part) -> Self {
+        let at = start(table, part) as usize;
+        Maker { table, at }
     }
-}
 
-fn is_same_part(a: Part, b: Part) -> bool {
-    head_of(a) == head_of(b)
-}
-
-// Whether an entry is one of a part.
-pub(crate) fn is_of(entry: Entry, part: Part) -> bool {
-    match entry {
-        Entry::Nothing => false,
-        Entry::Wrong(_) => false,
-        Entry::Edition => false,
-        Entry::Operation { .. } => is_same_part(part, Part::Operations),
-        Entry::Error { .. } => is_same_part(part, Part::Errors),
-        Entry::Pair { part: own, .. } => is_same_part(part, own),
-        Entry::Name(_) => is_same_part(part, Part::Names),
+    fn put(&mut self, octets: &[u8]) {
+        self.at = words(self.table, self.at, octets);
     }
-}
 
-fn put_any(table: &mut [u8], at: usize, entry: Entry) -> Taken {
-    match entry {
-        Entry::Nothing => ended(at),
-        Entry::Wrong(reason) => Taken { end: at, reason },
-        Entry::Edition => ended(at),
-        Entry::Operation {
-            code,
-            class,
-            argument,
-            result,
-            idempotent,
-        } => put_operation(table, at, code, class, argument, result, idempotent),
-        Entry::Error { code, parameter } => put_error(table, at, code, parameter),
-        Entry::Pair {
-            part,
-            first,
-            second,
-        } => put_pair(table, at, part, first, second),
-        Entry::Name(name) => ended(put_name(table, at, name)),
-    }
-}
-
-// Puts an entry behind the others if it is one of a part.
-pub(crate) fn put_entry(table: &mut [u8], at: usize, part: Part, entry: Entry) -> Taken {
-    if is_of(entry, part) {
-        return put_any(table, at, entry);
-    }
-    ended(at)
-}
-
-// Puts what a table of an edition starts with.
-pub(crate) fn put_edition(table: &mut [u8], e: Edition) {
-    match e {
-        Edition::First => {}
-        Edition::Second => {
-            let a = two(table, 0, 65535);
-            two(table, a, 2);
+    // The header of a table of an edition that has so many entries of each part.
+    pub(crate) fn header<F: Fn(Part) -> u16>(&mut self, e: Edition, count_of: F)
+        requires { F.IsAlwaysCallable count_of }
+    {
+        if e == Edition::Second {
+            self.put(&[0xFF, 0xFF, 0x00, 0x02]);
+        }
+        let mut start = header_of(e);
+        for part in Part::ALL {
+            if has_part(e, part) {
+                self.put(&count_of(part).to_be_bytes());
+                // `%` cuts, since `as` cuts nothing.
+                self.put(&((start % 0x1_0000) as u16).to_be_bytes());
+                start = end(self.table, part);
+            }
         }
     }
-}
 
-// Puts the count and the offset of a part into the header, and answers where the part ends.
-pub(crate) fn put_head(table: &mut [u8], e: Edition, part: Part, n: u16, start: usize) -> usize {
-    let a = two(table, counts_at(e) + head_of(part), n);
-    two(table, a, (start % 65536) as u16);
-    end(table, part)
+    // Where a code stands among the entries of a part that is written.
+    fn index_of(&self, part: Part, code: Code) -> Result<u16, Reason> {
+        (0..count(self.table, part))
+            .find(|&i| listed_at(self.table, part, i) == code)
+            .ok_or(Reason::NoLine { part, code })
+    }
+
+    // How a code is to stand in an entry: a name by the index of its line.
+    fn key(&self, code: Code) -> Result<Key, Reason> {
+        match code {
+            Code::Local(bits) => Ok(Key::Bits(bits)),
+            Code::Global(_) => {
+                let index = self.index_of(Part::Names, code)?;
+                Ok(Key::Index(u32::from(index)))
+            }
+        }
+    }
+
+    fn put_key(&mut self, key: Key) {
+        match key {
+            Key::Bits(number) | Key::Index(number) => self.put(&number.to_be_bytes()),
+        }
+    }
+
+    fn operation(
+        &mut self,
+        code: Code,
+        operation: Operation,
+        is_idempotent: bool,
+    ) -> Result<(), Reason> {
+        let key = self.key(code)?;
+        let flags = u8::from(operation.argument.optional)
+            | u8::from(operation.result.optional) << 1
+            | u8::from(is_named(key)) << 2
+            | u8::from(is_idempotent) << 3;
+        self.put_key(key);
+        self.put(&[
+            u8::from(operation.class),
+            operation.argument.identifier,
+            operation.result.identifier,
+            flags,
+        ]);
+        Ok(())
+    }
+
+    fn error(&mut self, code: Code, parameter: Rule) -> Result<(), Reason> {
+        let key = self.key(code)?;
+        let flags = u8::from(parameter.optional) | u8::from(is_named(key)) << 1;
+        self.put_key(key);
+        self.put(&[parameter.identifier, flags]);
+        Ok(())
+    }
+
+    fn pair(&mut self, part: Part, first: Code, second: Code) -> Result<(), Reason> {
+        let operation = self.index_of(Part::Operations, first)?;
+        let other = self.index_of(second_part(part), second)?;
+        self.put(&operation.to_be_bytes());
+        self.put(&other.to_be_bytes());
+        Ok(())
+    }
+
+    fn name(&mut self, name: Name) {
+        self.put(&[name.length]);
+        self.put(&name.octets());
+    }
+
+    pub(crate) fn entry(&mut self, entry: Entry) -> Result<(), Reason> {
+        match entry {
+            Entry::Edition => Ok(()),
+            Entry::Operation {
+                code,
+                operation,
+                is_idempotent,
+            } => self.operation(code, operation, is_idempotent),
+            Entry::Error { code, parameter } => self.error(code, parameter),
+            Entry::Pair {
+                part,
+                first,
+                second,
+            } => self.pair(part, first, second),
+            Entry::Name(name) => {
+                self.name(name);
+                Ok(())
+            }
+        }
+    }
 }

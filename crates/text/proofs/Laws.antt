@@ -1,19 +1,19 @@
 -- Text put into a line: one text behind the other, and the texts of octets one after the other.
-use Prim.Native.Nat.{ℕ, zero, suc, ◌+◌, ◌-◌, ◌*◌, ◌/◌, ◌%◌, ◌^◌, ◌≤◌, ◌<◌}
+use Prim.Native.Nat.{ℕ, zero, suc, min, ◌+◌, ◌-◌, ◌*◌, ◌/◌, ◌%◌, ◌^◌, ◌≤◌, ◌<◌}
 use mathlib.Core.Path.{◌≡◌, refl, sym, subst, ap, ◌∙◌}
 use mathlib.Core.Logic.{⊎_elim}
 use mathlib.Core.List.{List, [], ◌∷◌, ◌++◌, append_assoc, append-nil}
 use native.Mathlib.Numerals.{add-one}
 use native.Mathlib.Omega.{arith}
 use native.Mathlib.Nat.{one-le-pow, pow-suc, pow-le-pow_right}
-use borrow.Author.Tests.{lt-ltb, le-ltb}
-use Rattle.base.proofs.Tests.{cond_true, cond_false, cond_elim}
-use lib.ListN.{length, get_or, take, drop, set, length-append, drop_of_length-le}
-use lib.Seq.{sets, length-sets, set_out, take-suc, drop-cons}
-use lib.Dec.{eqb}
+use borrow.Author.Tests.{eq-eqb, ne_eqb, lt-ltb, le-ltb}
+use Rattle.base.proofs.Tests.{cond_true, cond_false}
+use lib.ListN.{length, get_or, take, drop, set, length-set, length-append, drop_of_length-le}
+use lib.Seq.{sets, sets-eq, length-sets, length-take-le, set_out, take_all, take-suc, drop-cons, drop-drop}
+use borrow.Rule.Slice.PartMut.{put_mid}
 use Rattle.base.proofs.Numbers.{less_or_not}
 use Rattle.io.specs.Digits.{hex_digit_ascii, last_digits, IsDigitCount}
-use Rattle.text.specs.Text.{Said, Worded, picked, bars_behind, item_from, item_of, each, hex_octet, eight_digits, decimal_within, decimal_digits}
+use Rattle.text.specs.Text.{Said, Worded, item_from, item_of, each, hex_octet, hex_octets, eight_digits, decimal_within, decimal_digits}
 
 -- ---- stores
 
@@ -30,14 +30,13 @@ sets_beyond o at (b ∷ e) h =
     let q : set o at b ≡ o = set_out o at b h in
     rw q (sets_beyond o (suc at) e (omega arith))
 
+-- what does not fit is left out
+pub sets_cut : (l : List ℕ) (at : ℕ) (s : List ℕ) (n : ℕ) → length l ≤ at + n → sets l at s ≡ sets l at (take n s)
+sets_cut l at [] n h = ap (sets l at) (sym (take_all n [] (omega arith)))
+sets_cut l at (b ∷ s) zero h = sets_beyond l at (b ∷ s) (omega arith)
+sets_cut l at (b ∷ s) (suc n) h = sets_cut (set l at b) (suc at) s n (omega (arith, length-set l at b))
+
 -- ---- one text behind the other
-
-pub said_none : (l : List ℕ) (at : ℕ) → Said l at [] l at
-said_none l at = record { stored = refl; behind = omega arith }
-
--- beyond the end nothing is put
-pub said_beyond : (l : List ℕ) (at : ℕ) (s : List ℕ) → length l ≤ at → Said l at s l at
-said_beyond l at s h = record { stored = sym (sets_beyond l at s h); behind = omega arith }
 
 pub said_said : {l : List ℕ} {at : ℕ} {s p : List ℕ} {r : ℕ} {t q : List ℕ} {k : ℕ} → Said l at s p r → Said p r t q k → Said l at (s ++ t) q k
 said_said {l} {at} {s} {p} {r} {t} {q} {k} x y = record {
@@ -51,12 +50,34 @@ said_said {l} {at} {s} {p} {r} {t} {q} {k} x y = record {
         (λ h. ap (λ (n : ℕ). sets (sets l at s) n t) (omega (arith, x.behind)))
         (less_or_not (length l) (at + length s))
 
+-- what fits of s is copied behind the start
+pub said_copied : (l s : List ℕ) (at start n : ℕ) (v : List ℕ) → start ≡ min at (length l) → n ≡ min (length s) (length l - start) → v ≡ take n s → Said l at s (put_mid start (start + n - start) l v) (at + n)
+said_copied l s at start n v e f w = record { stored = ⊎_elim over within (less_or_not (length l) at); behind = omega (arith, e, f) }
+  where
+    k : start + n - start ≡ n
+    k = omega arith
+
+    long : length (take n s) ≡ n
+    long = length-take-le n s (omega (arith, e, f))
+
+    stays : put_mid start (start + n - start) l v ≡ take start l ++ (take n s ++ drop (start + n) l)
+    stays = (λ i. put_mid start (k i) l (w i)) ∙ ap (λ (u : List ℕ). take start l ++ (take n s ++ u)) (drop-drop n start l)
+
+    within : at ≤ length l → put_mid start (start + n - start) l v ≡ sets l at s
+    within h =
+        let q : start ≡ at = omega (arith, e) in
+        let cut : sets l at s ≡ sets l at (take n s) = ⊎_elim (λ (g : n < length s). sets_cut l at s n (omega (arith, e, f))) (λ (g : length s ≤ n). ap (sets l at) (sym (take_all n s g))) (less_or_not n (length s)) in
+        stays ∙ (λ i. take (q i) l ++ (take n s ++ drop (q i + sym long i) l)) ∙ sym (cut ∙ sets-eq (take n s) l at (omega (arith, long, e, f)) ∙ append_assoc (take at l) (take n s) (drop (at + length (take n s)) l))
+
+    over : length l < at → put_mid start (start + n - start) l v ≡ sets l at s
+    over h =
+        let z : n ≡ 0 = omega (arith, e, f) in
+        let q : start ≡ length l = omega (arith, e) in
+        stays ∙ (λ i. take (q i) l ++ (take (z i) s ++ drop (q i + z i) l)) ∙ ap (λ (u : List ℕ). take (length l) l ++ u) (drop_of_length-le l (omega arith)) ∙ append-nil (take (length l) l) ∙ take_all (length l) l (omega arith) ∙ sym (sets_beyond l at s (omega arith))
+
 -- the same text, written otherwise
 pub said_as : {l : List ℕ} {at : ℕ} {s t p : List ℕ} {r : ℕ} → s ≡ t → Said l at s p r → Said l at t p r
 said_as {l} {at} {s} {t} {p} {r} e x = subst (λ (u : List ℕ). Said l at u p r) e x
-
-pub said_kept : {l : List ℕ} {at : ℕ} {s p : List ℕ} {r : ℕ} → Said l at s p r → length p ≡ length l
-said_kept {l} {at} {s} {p} {r} x = ap length x.stored ∙ length-sets l at s
 
 -- ---- octet by octet
 
@@ -66,10 +87,6 @@ each_append f (b ∷ s) t = ap (λ (u : List ℕ). f b ++ u) (each_append f s t)
 
 each_one : (f : ℕ → List ℕ) (b : ℕ) → each f (b ∷ []) ≡ f b
 each_one f b = append-nil (f b)
-
-pub each_self : (s : List ℕ) → each (λ b. b ∷ []) s ≡ s
-each_self [] = refl
-each_self (b ∷ s) = ap (λ (u : List ℕ). b ∷ u) (each_self s)
 
 -- the text of one octet more
 pub each_more : (f : ℕ → List ℕ) (s : List ℕ) (i : ℕ) → i < length s → each f (take i s) ++ f (get_or s i 0) ≡ each f (take (i + 1) s)
@@ -90,11 +107,11 @@ octet_digits k x =
     (λ i. last_digits 16 k (a i) ++ hex_digit_ascii (b i) ∷ hex_digit_ascii (c i) ∷ []) ∙ sym (append_assoc (last_digits 16 k (x / 16 / 16)) (hex_digit_ascii (x / 16 % 16) ∷ []) (hex_digit_ascii (x % 16) ∷ []))
 
 -- the octets of a number of 32 bits have its digits
-pub eight_digits_lem : (x : ℕ) → x < 0x100000000 → ((hex_octet (x / 0x1000000) ++ hex_octet (x / 0x10000 % 256)) ++ hex_octet (x / 256 % 256)) ++ hex_octet (x % 256) ≡ eight_digits x
-eight_digits_lem x h =
-    let a : x / 0x1000000 ≡ x / 256 / 256 / 256 % 256 = omega arith in
-    let b : x / 0x10000 % 256 ≡ x / 256 / 256 % 256 = omega arith in
-    (λ i. ((hex_octet (a i) ++ hex_octet (b i)) ++ hex_octet (x / 256 % 256)) ++ hex_octet (x % 256))
+pub eight_digits_lem : (x : ℕ) → hex_octets (x / 16777216 % 256 ∷ x / 65536 % 256 ∷ x / 256 % 256 ∷ x % 256 ∷ []) ≡ eight_digits x
+eight_digits_lem x =
+    let a : x / 16777216 % 256 ≡ x / 256 / 256 / 256 % 256 = omega arith in
+    let b : x / 65536 % 256 ≡ x / 256 / 256 % 256 = omega arith in
+    (λ i. hex_octet (a i) ++ hex_octet (b i) ++ hex_octet (x / 256 % 256) ++ hex_octet (x % 256))
     ∙ ap (λ (u : List ℕ). ((u ++ hex_octet (x / 256 / 256 % 256)) ++ hex_octet (x / 256 % 256)) ++ hex_octet (x % 256)) (octet_digits 0 (x / 256 / 256 / 256))
     ∙ ap (λ (u : List ℕ). (u ++ hex_octet (x / 256 % 256)) ++ hex_octet (x % 256)) (octet_digits 2 (x / 256 / 256))
     ∙ ap (λ (u : List ℕ). u ++ hex_octet (x % 256)) (octet_digits 4 (x / 256))
@@ -135,24 +152,35 @@ pub record Picking (l : List ℕ) (at n : ℕ) (s : List ℕ) (i bars : ℕ) (p 
   pub few : bars ≤ i
   pub left : words ++ item_from n bars (drop i s) ≡ item_of n s
 
-pub picking_none : (l : List ℕ) (at n : ℕ) (s : List ℕ) → Picking l at n s 0 0 l at
-picking_none l at n s = record { words = []; said = said_none l at; few = omega arith; left = refl }
-
-few_behind : (bars c i : ℕ) → bars ≤ i → bars_behind bars c ≤ i + 1
-unfolding bars_behind
-few_behind bars c i h = cond_elim (λ (b : ℕ). b ≤ i + 1) (eqb c 124) (bars + 1) bars (λ _. omega arith) (λ _. omega arith)
-
-pub picking_next : {l : List ℕ} {at n : ℕ} (s : List ℕ) (i : ℕ) {bars : ℕ} {p : List ℕ} {k : ℕ} {q : List ℕ} {r b : ℕ} → i < length s → Picking l at n s i bars p k → Said p k (picked n bars (get_or s i 0)) q r → b ≡ bars_behind bars (get_or s i 0) → Picking l at n s (i + 1) b q r
+-- the character is a bar
+pub picking_bar : {l : List ℕ} {at n : ℕ} (s : List ℕ) (i : ℕ) {bars : ℕ} {p : List ℕ} {k : ℕ} → i < length s → Picking l at n s i bars p k → get_or s i 0 ≡ 124 → Picking l at n s (i + 1) (bars + 1) p k
 unfolding item_from
-picking_next {l} {at} {n} s i {bars} {p} {k} {q} {r} {b} h x y e = record {
-  words = x.words ++ picked n bars (get_or s i 0);
+picking_bar {l} {at} {n} s i {bars} {p} {k} h x e = record {
+  words = x.words;
+  said = x.said;
+  few = omega (arith, x.few);
+  left = ap (λ (u : List ℕ). x.words ++ u) (ap (λ (m : ℕ). item_from n (bars + 1) (drop m s)) (add-one i) ∙ cond_true _ _ (eq-eqb _ _ e) ∙ ap (item_from n bars) (sym (drop-cons s i 0 h))) ∙ x.left;
+}
+
+-- it is another item's
+pub picking_other : {l : List ℕ} {at n : ℕ} (s : List ℕ) (i : ℕ) {bars : ℕ} {p : List ℕ} {k : ℕ} → i < length s → Picking l at n s i bars p k → (get_or s i 0 ≡ 124 → ⊥) → (bars ≡ n → ⊥) → Picking l at n s (i + 1) bars p k
+unfolding item_from
+picking_other {l} {at} {n} s i {bars} {p} {k} h x e f = record {
+  words = x.words;
+  said = x.said;
+  few = omega (arith, x.few);
+  left = ap (λ (u : List ℕ). x.words ++ u) (ap (λ (m : ℕ). item_from n bars (drop m s)) (add-one i) ∙ cond_false _ _ (ne_eqb _ _ f) ∙ cond_false _ _ (ne_eqb _ _ e) ∙ ap (item_from n bars) (sym (drop-cons s i 0 h))) ∙ x.left;
+}
+
+-- it is put
+pub picking_next : {l : List ℕ} {at n : ℕ} (s : List ℕ) (i : ℕ) {bars : ℕ} {p : List ℕ} {k : ℕ} {q : List ℕ} {r : ℕ} → i < length s → Picking l at n s i bars p k → (get_or s i 0 ≡ 124 → ⊥) → bars ≡ n → Said p k (get_or s i 0 ∷ []) q r → Picking l at n s (i + 1) bars q r
+unfolding item_from
+picking_next {l} {at} {n} s i {bars} {p} {k} {q} {r} h x e f y = record {
+  words = x.words ++ get_or s i 0 ∷ [];
   said = said_said x.said y;
-  few = omega (arith, e, few_behind bars (get_or s i 0) i x.few);
-  left = append_assoc x.words (picked n bars (get_or s i 0)) (item_from n b (drop (i + 1) s))
-      ∙ ap (λ (m : ℕ). x.words ++ (picked n bars (get_or s i 0) ++ item_from n m (drop (i + 1) s))) e
-      ∙ ap (λ (m : ℕ). x.words ++ (picked n bars (get_or s i 0) ++ item_from n (bars_behind bars (get_or s i 0)) (drop m s))) (add-one i)
-      ∙ ap (λ (u : List ℕ). x.words ++ item_from n bars u) (sym (drop-cons s i 0 h))
-      ∙ x.left;
+  few = omega (arith, x.few);
+  left = append_assoc x.words (get_or s i 0 ∷ []) (item_from n bars (drop (i + 1) s))
+      ∙ ap (λ (u : List ℕ). x.words ++ u) (ap (λ (m : ℕ). get_or s i 0 ∷ item_from n bars (drop m s)) (add-one i) ∙ cond_true _ _ (eq-eqb _ _ f) ∙ cond_false _ _ (ne_eqb _ _ e) ∙ ap (item_from n bars) (sym (drop-cons s i 0 h))) ∙ x.left;
 }
 
 pub picking_end : {l : List ℕ} {at n : ℕ} (s : List ℕ) (i : ℕ) {bars : ℕ} {p : List ℕ} {k : ℕ} → length s ≤ i → Picking l at n s i bars p k → Said l at (item_of n s) p k

@@ -1,16 +1,16 @@
 -- Text put out: one text behind the other, and what a buffer keeps of it.
 use Rattle.std.specs.Prelude.{ℕ, zero, suc, ◌∷◌, min, ◌+◌, ◌-◌, ◌/◌, ◌%◌, ◌≤◌, ◌<◌, ltb, ◌≡◌, List, [], ◌++◌, length, take, drop, None, Some}
-use Rattle.std.proofs.Common.{sym, subst, ap, ◌∙◌, arith}
-use Rattle.std.proofs.lemmas.List.Edits.{sets, sets-eq}
+use Rattle.std.proofs.Common.{subst, ap, ◌∙◌, arith}
+use Rattle.std.proofs.lemmas.List.Edits.{sets-eq}
 use mathlib.Core.List.{append_assoc}
 use lib.Seq.{take-append-le, take_all, length-take-le}
-use lib.ListN.{get_or, set, length-set, length-take, length-append}
-use Rattle.std.specs.Io.KnownBytes.{Appends, append_known}
+use lib.ListN.{get_or, length-take, length-append}
+use Rattle.std.specs.Io.KnownBytes.{Appends}
 use Rattle.std.specs.declared.option.Option.{Option}
 use Rattle.base.proofs.Tests.{cond_elim}
 use Rattle.io.specs.Digits.{hex_digit_ascii}
 use Rattle.text.specs.Text.{Said, each, decimal_within, decimal_digits, signed_digits}
-use Rattle.text.proofs.Laws.{sets_beyond, each_more}
+use Rattle.text.proofs.Laws.{sets_cut, each_more}
 use Rattle.text.specs.Out.{Put, text_of, Adds}
 
 appends_appends : (a b c : Option (List ℕ)) (s t : List ℕ) → Appends a b s → Appends b c t → Appends a c (s ++ t)
@@ -28,11 +28,6 @@ adds_adds p q r s t x y h =
 pub added_next : (f : ℕ → List ℕ) (p q r : Put) (s : List ℕ) (i : ℕ) → i < length s → Adds p (each f (take i s)) q → Adds q (f (get_or s i 0)) r → Adds p (each f (take (i + 1) s)) r
 added_next f p q r s i h x y = subst (λ (u : List ℕ). Adds p u r) (each_more f s i h) (adds_adds p q r (each f (take i s)) (f (get_or s i 0)) x y)
 
--- s is kept too
-pub kept_more : (a : Option (List ℕ)) (k l s : List ℕ) → l ≡ k ++ s → Appends (append_known a k) (append_known a l) s
-kept_more None k l s e = tt
-kept_more (Some a) k l s e = ap (λ (u : List ℕ). a ++ u) e ∙ sym (append_assoc a k s)
-
 -- ---- what a buffer keeps
 
 take_front : (a s d : List ℕ) → take (length a + length s) ((a ++ s) ++ d) ≡ a ++ s
@@ -44,12 +39,6 @@ take_said {l} {at} {s} {p} {r} h x =
     let n : length (take at l) ≡ at = length-take-le at l (omega arith) in
     let q : r ≡ length (take at l) + length s = omega (arith, x.behind) in
     ap (λ (k : ℕ). take k p) q ∙ ap (take (length (take at l) + length s)) (x.stored ∙ sets-eq s l at h) ∙ take_front (take at l) s (drop (at + length s) l)
-
--- what does not fit is left out
-sets_cut : (l : List ℕ) (at : ℕ) (s : List ℕ) (n : ℕ) → length l ≤ at + n → sets l at s ≡ sets l at (take n s)
-sets_cut l at [] n h = ap (sets l at) (sym (take_all n [] (omega arith)))
-sets_cut l at (b ∷ s) zero h = sets_beyond l at (b ∷ s) (omega arith)
-sets_cut l at (b ∷ s) (suc n) h = sets_cut (set l at b) (suc at) s n (omega (arith, length-set l at b))
 
 pub said_front : {l s p : List ℕ} {r : ℕ} → Said l 0 s p r → take r p ≡ take (length l) s
 said_front {l} {s} {p} {r} x =

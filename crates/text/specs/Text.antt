@@ -1,5 +1,5 @@
 -- Words, numbers and octets as text, and what a function that puts text into a line promises.
-use Rattle.std.specs.Prelude.{ℕ, zero, suc, ◌+◌, ◌-◌, ◌/◌, ◌%◌, min, ◌≡◌, cond, List, [], ◌∷◌, ◌++◌, length, eqb, ltb}
+use Rattle.std.specs.Prelude.{ℕ, zero, suc, ◌+◌, ◌-◌, ◌/◌, ◌%◌, min, ◌≡◌, cond, if◌then◌else◌, ◌==◌, List, [], ◌∷◌, ◌++◌, length, ltb}
 use Rattle.std.proofs.lemmas.List.Edits.{sets}
 use Rattle.io.specs.Digits.{hex_digit_ascii, last_digits}
 
@@ -49,16 +49,10 @@ signed_digits bits = cond (ltb bits 0x80000000) (decimal_digits bits) (45 ∷ de
 
 -- ---- the items of a list, a bar between each and the next
 
--- what a character with so many bars before it adds to item n: nothing, if it is a bar or another item's
-unfoldable pub picked : ℕ → ℕ → ℕ → List ℕ
-picked n bars c = cond (eqb c 124) [] (cond (eqb bars n) (c ∷ []) [])
-
-unfoldable pub bars_behind : ℕ → ℕ → ℕ
-bars_behind bars c = cond (eqb c 124) (bars + 1) bars
-
+-- what of the text is in item n, with so many bars before it
 unfoldable pub item_from : ℕ → ℕ → List ℕ → List ℕ
 item_from n bars [] = []
-item_from n bars (c ∷ s) = picked n bars c ++ item_from n (bars_behind bars c) s
+item_from n bars (c ∷ s) = (if c == 124 then item_from n (bars + 1) s else (if bars == n then c ∷ item_from n bars s else item_from n bars s))
 
 -- item n, counted from 0; none where there are not so many
 abbrev pub item_of : ℕ → List ℕ → List ℕ

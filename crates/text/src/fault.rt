@@ -1,27 +1,14 @@
-// What is wrong with hexadecimal text, in words.
+// What is wrong with hexadecimal text, in words. The line, the place, what lines are called and the text stay parameters: `Worded` is of the first two, and a struct of
+// the others would be made for one call.
 ghost use Rattle.text.specs.Text.{Worded};
 
-use crate::hex::{Hex, is_blank};
+use crate::hex::{HexFault, is_blank};
 use crate::{decimal, octet, put, words};
-
-// A line behind a character of line n.
-fn line_behind(n: u64, c: u8) -> u64 {
-    if c != 10 {
-        return n;
-    }
-    if n == u64::MAX {
-        return n;
-    }
-    n + 1
-}
 
 // The line that the end of a text stands in, counted from 1.
 fn last_line(text: &[u8]) -> u64 {
-    let mut n: u64 = 1;
-    for i in 0..text.len() {
-        n = line_behind(n, text[i]);
-    }
-    n
+    let ended = text.iter().filter(|&&c| c == b'\n').count();
+    (ended as u64).saturating_add(1)
 }
 
 // The number of the line, behind what lines are called.
@@ -29,7 +16,7 @@ fn line_name(line: &mut [u8], at: usize, unit: &[u8], text: &[u8]) -> usize
     ensures { Worded line.old at line.new result }
 {
     let a = words(line, at, unit);
-    let b = put(line, a, 32);
+    let b = put(line, a, b' ');
     let c = decimal(line, b, last_line(text));
     words(line, c, b": ")
 }
@@ -38,16 +25,15 @@ fn line_name(line: &mut [u8], at: usize, unit: &[u8], text: &[u8]) -> usize
 fn character(line: &mut [u8], at: usize, c: u8) -> usize
     ensures { Worded line.old at line.new result }
 {
-    if c < 33 || c > 126 {
-        let a = words(line, at, b"the octet ");
-        return octet(line, a, c);
+    if c.is_ascii_graphic() {
+        return words(line, at, &[b'\'', c, b'\'']);
     }
-    let a = put(line, at, 39);
-    let b = put(line, a, c);
-    put(line, b, 39)
+    let a = words(line, at, b"the octet ");
+    octet(line, a, c)
 }
 
 // The text up to a first digit that has no second one.
+#[tactic(auto, using(crate::proofs::Laws::worded_said, crate::proofs::Laws::worded_worded))]
 fn one_digit(line: &mut [u8], at: usize, unit: &[u8], text: &[u8]) -> usize
     ensures { Worded line.old at line.new result }
 {
@@ -56,10 +42,11 @@ fn one_digit(line: &mut [u8], at: usize, unit: &[u8], text: &[u8]) -> usize
 }
 
 // The text up to a character that cannot stand behind it: a blank or a # leaves an octet with one digit.
+#[tactic(auto, using(crate::proofs::Laws::worded_said, crate::proofs::Laws::worded_worded))]
 fn no_digit(line: &mut [u8], at: usize, unit: &[u8], text: &[u8], c: u8) -> usize
     ensures { Worded line.old at line.new result }
 {
-    if is_blank(c) || c == 35 {
+    if is_blank(c) || c == b'#' {
         return one_digit(line, at, unit, text);
     }
     let a = line_name(line, at, unit, text);
@@ -67,19 +54,23 @@ fn no_digit(line: &mut [u8], at: usize, unit: &[u8], text: &[u8], c: u8) -> usiz
     words(line, b, b" is not a hexadecimal digit")
 }
 
-// What `read_hex` found wrong with a text, with the number of its line; `unit` is what lines are called, as `line` or `argument`.
-pub fn fault(line: &mut [u8], at: usize, unit: &[u8], text: &[u8], found: Hex) -> usize
+// What `read_hex` found wrong with a text, with the number of its line; `unit` is what lines are called, as `line` or `argument`. No Display, since `Worded`
+// is of a line that is lent.
+pub fn fault(
+    line: &mut [u8],
+    at: usize,
+    unit: &[u8],
+    text: &[u8],
+    found: Result<usize, HexFault>,
+) -> usize
     ensures { Worded line.old at line.new result }
 {
     match found {
-        Hex::Of(_) => words(line, at, b""),
-        Hex::Long => words(line, at, b"there are too many octets"),
-        Hex::Half => one_digit(line, at, unit, text),
-        Hex::NoDigit(place) => {
-            if place >= text.len() {
-                return one_digit(line, at, unit, text);
-            }
-            no_digit(line, at, unit, &text[0..place], text[place])
+        Ok(_) => words(line, at, b""),
+        Err(HexFault::Long) => words(line, at, b"there are too many octets"),
+        Err(HexFault::NoDigit(place)) if place < text.len() => {
+            no_digit(line, at, unit, &text[..place], text[place])
         }
+        Err(_) => one_digit(line, at, unit, text),
     }
 }

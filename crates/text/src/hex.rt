@@ -1,26 +1,26 @@
 // Octets read from hexadecimal text: two digits of either case for each, which stand together.
 // Between octets, blanks and line ends are passed over, and from a # on everything up to the end of its line.
-ghost use Rattle.std.specs.Prelude.{◌≡◌};
+ghost use Rattle.std.specs.Prelude.{◌≡◌, Ok, Some};
 ghost use Rattle.text.specs.Hex.{is_blank, digit_of, between, comment, answer, Read};
-ghost use Rattle.text.specs.Steps.{Sound, Stepped};
+ghost use Rattle.text.specs.Steps.{Sound, Moved};
+ghost use Rattle.text.specs.Text.{hex_octets, spaced_octets};
 
-// How many octets the text says, or what is wrong with it: the place of a character that cannot stand there, an octet at its end with
-// one digit only, more octets than fit.
-#[derive(Clone, Copy)]
-pub enum Hex {
-    Of(usize),
+use std::fmt;
+
+// What is wrong with a text: the place of a character that cannot stand there, an octet at its end with one digit only, more octets than fit.
+#[derive(Clone, Copy, Debug, PartialEq, Eq)]
+pub enum HexFault {
     NoDigit(usize),
     Half,
     Long,
 }
 
-// What stands before the next character: whole octets, a #, the first digit of an octet, or what is wrong.
+// What stands before the next character: whole octets, a #, or the first digit of an octet.
 #[derive(Clone, Copy)]
 pub(crate) enum Phase {
     Between,
     Comment,
     First(u8),
-    Wrong(Hex),
 }
 
 #[derive(Clone, Copy)]
@@ -29,142 +29,139 @@ pub(crate) struct Reading {
     pub(crate) count: usize,
 }
 
+// Octets in hexadecimal, two digits in lower case for each, without blanks.
+#[derive(Clone, Copy)]
+pub struct Octets<'a>(pub &'a [u8]);
+
+impl fmt::Display for Octets<'_> {
+    ghost output = { λ octets. Some (hex_octets octets.0.now) };
+
+    fn fmt<W: fmt::Write>(&self, f: &mut fmt::Formatter<W>) -> fmt::Result {
+        for &octet in self.0 {
+            write!(f, "{octet:02x}")?;
+        }
+        Ok(())
+    }
+}
+
+// The same, a space before each octet.
+#[derive(Clone, Copy)]
+pub struct SpacedOctets<'a>(pub &'a [u8]);
+
+impl fmt::Display for SpacedOctets<'_> {
+    ghost output = { λ octets. Some (spaced_octets octets.0.now) };
+
+    fn fmt<W: fmt::Write>(&self, f: &mut fmt::Formatter<W>) -> fmt::Result {
+        for &octet in self.0 {
+            write!(f, " {octet:02x}")?;
+        }
+        Ok(())
+    }
+}
+
 pub(crate) fn is_blank(c: u8) -> bool
     ensures { result ≡ is_blank c }
 {
-    if c == 32 {
-        return true;
-    }
-    if c == 9 {
-        return true;
-    }
-    if c == 10 {
-        return true;
-    }
-    c == 13
+    matches!(c, b' ' | b'\t' | b'\n' | b'\r')
 }
 
-// The digit that a character is, or 16.
+// By hand: `digit_of` is of octets, and `to_digit` of std of characters.
 #[tactic(auto, unfolding(crate::specs::Hex::digit_of))]
-fn digit_of(c: u8) -> u8
+fn digit_of(c: u8) -> Option<u8>
     ensures { result ≡ digit_of c }
 {
-    if c < 48 {
-        return 16;
+    match c {
+        b'0'..=b'9' => Some(c - b'0'),
+        b'A'..=b'F' => Some(c - b'A' + 10),
+        b'a'..=b'f' => Some(c - b'a' + 10),
+        _ => None,
     }
-    if c < 58 {
-        return c - 48;
-    }
-    if c < 65 {
-        return 16;
-    }
-    if c < 71 {
-        return c - 55;
-    }
-    if c < 97 {
-        return 16;
-    }
-    if c < 103 {
-        return c - 87;
-    }
-    16
 }
 
 #[tactic(auto, unfolding(crate::specs::Hex::between))]
-fn after_octets(place: usize, c: u8) -> Phase
+fn after_octets(place: usize, c: u8) -> Result<Phase, HexFault>
     ensures { result ≡ between place c }
 {
     if is_blank(c) {
-        return Phase::Between;
+        return Ok(Phase::Between);
     }
-    if c == 35 {
-        return Phase::Comment;
+    if c == b'#' {
+        return Ok(Phase::Comment);
     }
-    let d = digit_of(c);
-    if d < 16 {
-        return Phase::First(d);
-    }
-    Phase::Wrong(Hex::NoDigit(place))
+    digit_of(c)
+        .map(Phase::First)
+        .ok_or(HexFault::NoDigit(place))
 }
 
 #[tactic(auto, unfolding(crate::specs::Hex::comment))]
 fn in_comment(c: u8) -> Phase
     ensures { result ≡ comment c }
 {
-    if c == 10 {
-        return Phase::Between;
+    if c == b'\n' {
+        Phase::Between
+    } else {
+        Phase::Comment
     }
-    Phase::Comment
 }
 
 // The octet whose first digit is d, if the character is its second and there is room.
-fn after_first(out: &mut [u8], count: usize, d: u8, place: usize, c: u8) -> Reading
+// The output and the count stay apart: `Sound` and `Moved` are of the output and of a Reading.
+fn after_first(
+    out: &mut [u8],
+    count: usize,
+    d: u8,
+    place: usize,
+    c: u8,
+) -> Result<Reading, HexFault>
     requires { Sound out.old (record { phase = Phase.First d; count = count }) }
-    ensures { Stepped out.old (record { phase = Phase.First d; count = count }) place c out.new result }
+    ensures { Moved out.old (record { phase = Phase.First d; count = count }) place c out.new result }
 {
-    let e = digit_of(c);
-    if e >= 16 {
-        return Reading {
-            phase: Phase::Wrong(Hex::NoDigit(place)),
-            count,
-        };
-    }
+    let Some(e) = digit_of(c) else {
+        return Err(HexFault::NoDigit(place));
+    };
     if count >= out.len() {
-        return Reading {
-            phase: Phase::Wrong(Hex::Long),
-            count,
-        };
+        return Err(HexFault::Long);
     }
     out[count] = d * 16 + e;
-    Reading {
+    Ok(Reading {
         phase: Phase::Between,
         count: count + 1,
-    }
+    })
 }
 
-fn next(out: &mut [u8], r: Reading, place: usize, c: u8) -> Reading
+fn next(out: &mut [u8], r: Reading, place: usize, c: u8) -> Result<Reading, HexFault>
     requires { Sound out.old r }
-    ensures { Stepped out.old r place c out.new result }
+    ensures { Moved out.old r place c out.new result }
 {
-    let phase = r.phase;
     let count = r.count;
-    match phase {
-        Phase::Between => Reading {
-            phase: after_octets(place, c),
-            count,
-        },
-        Phase::Comment => Reading {
-            phase: in_comment(c),
-            count,
-        },
-        Phase::First(d) => after_first(out, count, d, place, c),
-        Phase::Wrong(_) => r,
-    }
+    let phase = match r.phase {
+        Phase::Between => after_octets(place, c)?,
+        Phase::Comment => in_comment(c),
+        Phase::First(d) => return after_first(out, count, d, place, c),
+    };
+    Ok(Reading { phase, count })
 }
 
 #[tactic(auto, unfolding(crate::specs::Hex::answer))]
-fn at_end(phase: Phase, count: usize) -> Hex
-    ensures { result ≡ answer phase count }
+fn at_end(r: Reading) -> Result<usize, HexFault>
+    ensures { result ≡ answer (Ok r.phase) r.count }
 {
-    match phase {
-        Phase::Between => Hex::Of(count),
-        Phase::Comment => Hex::Of(count),
-        Phase::First(_) => Hex::Half,
-        Phase::Wrong(h) => h,
+    match r.phase {
+        Phase::Between | Phase::Comment => Ok(r.count),
+        Phase::First(_) => Err(HexFault::Half),
     }
 }
 
-// Reads the octets that a text says to the front of out.
-pub fn read_hex(text: &[u8], out: &mut [u8]) -> Hex
+// Reads the octets that a text says to the front of out, and answers how many they are.
+pub fn read_hex(text: &[u8], out: &mut [u8]) -> Result<usize, HexFault>
     ensures { Read text.now out.old out.new result }
 {
     let mut r = Reading {
         phase: Phase::Between,
         count: 0,
     };
-    for i in 0..text.len() {
-        r = next(out, r, i, text[i]);
+    for (i, &c) in text.iter().enumerate() {
+        r = next(out, r, i, c)?;
     }
-    let phase = r.phase;
-    at_end(phase, r.count)
+    at_end(r)
 }

@@ -4,7 +4,9 @@ ghost use Rattle.text.specs.Out.{AddsLine};
 ghost use Rattle.std.specs.Io.KnownBytes.{Consumes};
 
 use crate::out::{Out, words};
+use arrayvec::ArrayVec;
 use std::env::FillError;
+use std::fmt::Write as _;
 use std::io::{Error, Read, Result, Write};
 use std::rt::{Env, Files};
 use std::{fmt, fs};
@@ -19,14 +21,12 @@ pub fn argument_count(rt: &impl Env) -> usize {
     usize::MAX
 }
 
-// Puts an argument at the front of a buffer, and answers how long it is: 0 where it is longer than the buffer, or there is none.
+// Puts an argument at the front of a buffer, and answers how long it is: 0 where it is longer than the buffer, or there is none. No Option, since it was
+// always a function that cannot fail.
 pub fn argument(rt: &impl Env, i: usize, buffer: &mut [u8]) -> usize
     ensures { result ≤ length buffer.new }
 {
-    match rt.arg(i, buffer) {
-        Ok(n) => n,
-        Err(_) => 0,
-    }
+    rt.arg(i, buffer).unwrap_or(0)
 }
 
 // Reads until the buffer is full, the input ends or a read fails, and answers how many octets it put at the front of the buffer.
@@ -34,6 +34,7 @@ pub fn read_full<R: Read>(input: &mut R, buffer: &mut [u8]) -> usize
     ensures within { result ≤ length buffer.new }
     ensures octets { Consumes (R.remaining input.old) (R.remaining input.new) (take result buffer.new) }
 {
+    // Each read says itself how far it went.
     let mut end = 0;
     while end < buffer.len() {
         match input.read(&mut buffer[end..]) {
@@ -49,10 +50,7 @@ pub fn read_full<R: Read>(input: &mut R, buffer: &mut [u8]) -> usize
 const ILLEGAL_SEQUENCE: i32 = 84;
 
 fn path_of(name: &[u8]) -> Result<&str> {
-    match std::str::from_utf8(name) {
-        Ok(path) => Ok(path),
-        Err(_) => Err(Error::from_raw_os_error(ILLEGAL_SEQUENCE)),
-    }
+    std::str::from_utf8(name).map_err(|_| Error::from_raw_os_error(ILLEGAL_SEQUENCE))
 }
 
 // Opens the file of a name, which must be UTF-8.
@@ -68,36 +66,23 @@ pub fn create<R: Files>(rt: &R, name: &[u8]) -> Result<R::File> {
 // A value shown in a buffer; what does not fit is left out.
 #[derive(Drop)]
 struct Shown {
-    line: [u8; 256],
-    end: usize,
-}
-
-impl Shown {
-    fn text(&self) -> &[u8] {
-        if self.end <= 256 {
-            return &self.line[..self.end];
-        }
-        &self.line
-    }
+    text: ArrayVec<u8, 256>,
 }
 
 impl fmt::Write for Shown {
     fn write_str(&mut self, s: &str) -> fmt::Result {
-        let at = self.end;
-        self.end = crate::words(&mut self.line, at, s.as_bytes());
+        let fits = s.len().min(self.text.remaining_capacity());
+        let _ = self.text.try_extend_from_slice(&s.as_bytes()[..fits]);
         Ok(())
     }
 }
 
 // The text before the last bracket, behind which std puts the error's number, and the blank before it.
 fn without_number(text: &[u8]) -> &[u8] {
-    let mut end = text.len();
-    for i in 1..text.len() {
-        if text[i] == b'(' {
-            end = i - 1;
-        }
+    match text.iter().rposition(|&b| b == b'(') {
+        Some(bracket) if bracket > 0 => &text[..bracket - 1],
+        _ => text,
     }
-    &text[..end]
 }
 
 // Says in one line what failed, and why.
@@ -106,13 +91,12 @@ pub fn fail(out: &mut Out<impl Write>, what: &[u8], error: Error)
     ensures written { out.new.kept ≡ [] }
 {
     let mut shown = Shown {
-        line: [0; 256],
-        end: 0,
+        text: ArrayVec::new(),
     };
-    let _ = fmt::Write::write_fmt(&mut shown, error);
+    let _ = write!(shown, "{error}");
     words(out, what);
     words(out, b": ");
-    words(out, without_number(shown.text()));
+    words(out, without_number(shown.text.as_slice()));
     words(out, b"\n");
 }
 

@@ -1,5 +1,5 @@
 // Words, numbers and octets as text: each function puts its text into a line at a place and answers the place behind it.
-// What does not fit is left out.
+// What does not fit is left out. The line and the place stay two parameters: `Said`, which every caller of these functions is told, speaks of both.
 #![tactic(auto)]
 
 pub mod fault;
@@ -30,18 +30,18 @@ pub fn put(line: &mut [u8], at: usize, b: u8) -> usize
 pub fn words(line: &mut [u8], at: usize, s: &[u8]) -> usize
     ensures { Said line.old at s.now line.new result }
 {
-    let mut k = at;
-    for i in 0..s.len() {
-        k = put(line, k, s[i]);
-    }
-    k
+    let start = at.min(line.len());
+    let n = s.len().min(line.len() - start);
+    line[start..start + n].copy_from_slice(&s[..n]);
+    at + n
 }
 
+// Digits are put by hand here and below: std shows numbers through a formatter, and `Said` is of a line that is lent.
 fn digit(d: u8) -> u8
     requires { d < 16 }
     ensures { result ≡ hex_digit_ascii d }
 {
-    if d < 10 { 48 + d } else { 87 + d }
+    if d < 10 { b'0' + d } else { b'a' + (d - 10) }
 }
 
 // An octet as two hexadecimal digits.
@@ -57,8 +57,8 @@ pub fn octets(line: &mut [u8], at: usize, s: &[u8]) -> usize
     ensures { Said line.old at (hex_octets s.now) line.new result }
 {
     let mut k = at;
-    for i in 0..s.len() {
-        k = octet(line, k, s[i]);
+    for &b in s {
+        k = octet(line, k, b);
     }
     k
 }
@@ -68,24 +68,24 @@ pub fn spaced_octets(line: &mut [u8], at: usize, s: &[u8]) -> usize
     ensures { Said line.old at (spaced_octets s.now) line.new result }
 {
     let mut k = at;
-    for i in 0..s.len() {
-        let a = put(line, k, 32);
-        k = octet(line, a, s[i]);
+    for &b in s {
+        let a = put(line, k, b' ');
+        k = octet(line, a, b);
     }
     k
 }
 
 // A number as eight hexadecimal digits.
+#[tactic(auto, using(crate::proofs::Laws::eight_digits_lem))]
 pub fn eight_digits(line: &mut [u8], at: usize, x: u32) -> usize
     ensures { Said line.old at (eight_digits x) line.new result }
 {
-    let a = octet(line, at, (x / 0x100_0000) as u8);
-    let b = octet(line, a, (x / 0x1_0000 % 256) as u8);
-    let c = octet(line, b, (x / 256 % 256) as u8);
-    octet(line, c, (x % 256) as u8)
+    octets(line, at, &x.to_be_bytes())
 }
 
 // A number in decimal.
+// The digits stand in an array with room for any number, since there is no heap.
+#[tactic(auto, using(crate::proofs::Laws::decimal_digits_lem))]
 pub fn decimal(line: &mut [u8], at: usize, n: u64) -> usize
     ensures { Said line.old at (decimal_digits n) line.new result }
 {
@@ -101,19 +101,16 @@ pub fn signed(line: &mut [u8], at: usize, bits: u32) -> usize
     if bits < 0x8000_0000 {
         return decimal(line, at, bits as u64);
     }
-    let a = put(line, at, 45);
+    let a = put(line, at, b'-');
     decimal(line, a, 0x1_0000_0000 - bits as u64)
 }
 
 // Puts a line up to a place out, and answers whether all that was put out so far is written or kept.
+// The line and how far it is filled stay two parameters, as the functions above hand them out.
 pub fn print(out: &mut Out<impl Write>, line: &[u8], end: usize) -> bool
     ensures added { Adds out.old (take end line.now) out.new }
     ensures whole { result ≡ out.new.whole }
 {
-    if end <= line.len() {
-        out::words(out, &line[0..end]);
-    } else {
-        out::words(out, line);
-    }
+    out::words(out, &line[..end.min(line.len())]);
     out.is_whole()
 }

@@ -8,6 +8,8 @@ ghost use Rattle.text.specs.Out.{Put, Adds, AddsWords, EndsLine, Fits, kept_behi
 use crate::item::item;
 use crate::problem::problem;
 use crate::{print, signed};
+use arrayvec::ArrayVec;
+use std::fmt;
 use std::io::Write;
 use std::marker::Model;
 
@@ -15,17 +17,14 @@ use std::marker::Model;
 #[derive(Drop)]
 pub struct Out<W: Write> {
     to: W,
-    kept: [u8; 4096],
-    end: usize,
+    kept: ArrayVec<u8, 4096>,
     whole: bool,
 }
 
 impl<W: Write> Model for Out<W> {
     ghost Value = { Put };
 
-    ghost view = { λ o. record { held = W.contents o.to; kept = take o.end o.kept; whole = o.whole } };
-
-    ghost invariant = { λ o. o.end ≤ 4096 };
+    ghost view = { λ o. record { held = W.contents o.to; kept = o.kept.items; whole = o.whole } };
 }
 
 impl<W: Write> Out<W> {
@@ -34,8 +33,7 @@ impl<W: Write> Out<W> {
     {
         Out {
             to,
-            kept: [0; 4096],
-            end: 0,
+            kept: ArrayVec::new(),
             whole: true,
         }
     }
@@ -52,9 +50,8 @@ impl<W: Write> Out<W> {
         ensures added { Adds self.old [] self.new }
         ensures written { self.new.kept ≡ [] }
     {
-        let end = self.end;
-        let is_taken = self.to.write_all(&self.kept[..end]).is_ok();
-        self.end = 0;
+        let is_taken = self.to.write_all(self.kept.as_slice()).is_ok();
+        self.kept.clear();
         self.whole = self.whole && is_taken;
     }
 
@@ -64,22 +61,33 @@ impl<W: Write> Out<W> {
         ensures kept { Fits self.old s.now → self.new ≡ kept_behind self.old s.now }
         ensures given { (Fits self.old s.now → ⊥) → self.new.kept ≡ [] }
     {
-        let end = self.end;
-        if s.len() <= 4096 - end {
-            self.end = crate::words(&mut self.kept, end, s);
+        if self.kept.try_extend_from_slice(s).is_ok() {
             return;
         }
-        let is_first_taken = self.to.write_all(&self.kept[..end]).is_ok();
+        let is_first_taken = self.to.write_all(self.kept.as_slice()).is_ok();
         let is_taken = self.to.write_all(s).is_ok();
-        self.end = 0;
+        self.kept.clear();
         self.whole = self.whole && is_first_taken && is_taken;
+    }
+}
+
+// Text that `write!` makes is put out as `words` puts it, and `write!` never fails.
+impl<W: Write> fmt::Write for Out<W> {
+    ghost write_str_gives = { Adds };
+
+    fn write_str(&mut self, s: &str) -> fmt::Result
+        ensures added { Adds self.old s.now self.new }
+        ensures ok { result ≡ Ok tt }
+    {
+        words(self, s.as_bytes());
+        Ok(())
     }
 }
 
 fn ends_line(s: &[u8]) -> bool
     ensures { IsTrue result ↔ EndsLine s.now }
 {
-    s.len() > 0 && s[s.len() - 1] == b'\n'
+    s.last() == Some(&b'\n')
 }
 
 pub fn words(out: &mut Out<impl Write>, s: &[u8])
@@ -93,6 +101,7 @@ pub fn words(out: &mut Out<impl Write>, s: &[u8])
     }
 }
 
+// Each of the functions with a line of their own has it as long as its text can be: one function for them, over a closure, would take more than three lines.
 pub fn decimal(out: &mut Out<impl Write>, n: u64)
     ensures { Adds out.old (decimal_digits n) out.new }
 {
@@ -130,8 +139,8 @@ fn spaced_octet(out: &mut Out<impl Write>, b: u8)
 pub fn octets(out: &mut Out<impl Write>, s: &[u8])
     ensures { Adds out.old (spaced_octets s.now) out.new }
 {
-    for i in 0..s.len() {
-        spaced_octet(out, s[i]);
+    for &b in s {
+        spaced_octet(out, b);
     }
 }
 
@@ -145,6 +154,7 @@ pub fn name(out: &mut Out<impl Write>, list: &[u8], n: usize)
 }
 
 // A Reject's problem by its kind, number and name.
+// Two octets, since `problem` takes any.
 pub fn problem_name(out: &mut Out<impl Write>, kind: u8, number: u8)
     ensures { AddsWords out.old out.new }
 {

@@ -1,5 +1,5 @@
 //! What the six calls answer: indications, refusals and problems.
-//! Follows document 01, "Receiving" and the table of refusal numbers, with document 02, requests Four to Seven.
+//! Follows docs/RULES.md, "Receiving, in order of check", "The table of refusals" and "Where octets are at fault".
 
 use crate::code::Code;
 
@@ -249,7 +249,7 @@ impl Refusal {
         }
     }
 
-    /// The papers' number.
+    /// Its number in "The table of refusals".
     pub fn number(self) -> u8 {
         match self {
             Refusal::InvalidTable => 1,

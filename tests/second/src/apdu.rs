@@ -1,5 +1,5 @@
 //! The four APDUs: reading their fields from received octets, measuring and writing outgoing ones.
-//! Follows document 01, "The four APDUs" and step 1 of "Receiving", with document 02, requests Three and Five.
+//! Follows docs/RULES.md, "The four APDUs" and "Names", and step 1 of "Receiving, in order of check".
 
 use crate::answer::Problem;
 use crate::code::{Asked, Code};

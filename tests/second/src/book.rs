@@ -1,5 +1,5 @@
 //! The book kept beside a list of calls at a kiosk and a controller, and the conclusions drawn from it.
-//! Follows document 01, "The book for demand 3", with document 02, request Seven; it never looks at a state.
+//! Follows docs/RULES.md, "The book" and "Probe and acknowledge"; it never looks at a state.
 
 use std::collections::{HashMap, HashSet};
 

@@ -1,5 +1,5 @@
 //! A day's capture: a header, an index and the data, and a reader that keeps the lent capture and its place.
-//! Follows document 02, request One.
+//! Follows docs/RULES.md, "A day's capture, replayed".
 
 use std::cmp::Ordering;
 

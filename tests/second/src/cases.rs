@@ -1,5 +1,5 @@
 //! Named octets for each rule: elements that are and are not well-formed, APDUs with wrong and with unusual fields.
-//! Follows document 01, "Well-formed octets" and "The four APDUs", and the readings of both.
+//! Follows docs/RULES.md, "Well-formed octets" and "The four APDUs", and the readings of both.
 
 /// Octets with a name.
 pub type Named = (&'static str, &'static [u8]);

@@ -1,5 +1,5 @@
 //! The code of an operation or error: a local number, or a name, which is an object identifier.
-//! Follows document 02, request Five.
+//! Follows docs/RULES.md, "Names".
 
 use std::fmt;
 

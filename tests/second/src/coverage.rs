@@ -1,4 +1,4 @@
-//! Which rows of the papers the generated scripts reach, and how often.
+//! Which rows of the rules the generated scripts reach, and how often.
 
 use crate::answer::{Answer, Problem, Refusal, REFUSALS};
 use crate::faults;

@@ -1,5 +1,5 @@
 //! Captures that break one rule of their form, and right ones on the other side of each limit.
-//! Follows document 02, request One.
+//! Follows docs/RULES.md, "A day's capture, replayed".
 
 use crate::apdu;
 use crate::capture::{ENTRIES, HEADER, OCTETS, PLACE};

@@ -1,5 +1,5 @@
 //! One end of an association driven by a script: frames in, one line out for each call.
-//! Follows the drive protocol.
+//! Follows the drive protocol, docs/DRIVE.md.
 
 use std::hint::black_box;
 use std::io::{self, Read, Write};

@@ -1,5 +1,5 @@
 //! A kiosk with table O and a controller with table N, which extends O, over a channel that loses, repeats and
-//! reorders; every call is noted in the book of demand 3 and checked. Both ends are played by this program's engine
+//! reorders; every call is noted in the book and checked. Both ends are played by this program's engine
 //! or by another program.
 
 use crate::book::{Book, End, ROWS};
@@ -40,7 +40,7 @@ const FORGETFUL: usize = 5;
 /// In one of so many associations the controller answers seldom.
 const SLOW: usize = 4;
 
-/// Runs associations until so many calls are made: the counts, and whether all is as demand 3 says and often enough.
+/// Runs associations until so many calls are made: the counts, and whether all is as "What is shown was given" says and often enough.
 /// A program, if one is named, plays both ends.
 pub fn run(program: Option<&str>, seed: u64, calls: u64) -> Result<(String, bool), String> {
     let mut random = Random::new(seed);

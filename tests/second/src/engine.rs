@@ -1,6 +1,6 @@
 //! The six calls: receive, the four requests and forget. A refused call leaves the state as given.
-//! Follows document 01, "Receiving, in order of check" and "Requests, in order of check", with document 02, requests
-//! Four to Seven.
+//! Follows docs/RULES.md, "Receiving, in order of check", "Requests, in order of check", "Where octets are at fault",
+//! "Names", "Ids that rest", "Kept answers" and "Probe and acknowledge".
 
 use crate::answer::{Indication, Problem, Received, Refusal};
 use crate::apdu::{self, Apdu, Invoke, Outgoing};

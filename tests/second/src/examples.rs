@@ -1,4 +1,4 @@
-//! The marked examples P1 to P12 of document 01: each call with the whole line that answers it.
+//! The marked examples P1 to P12 of docs/RULES.md: each call with the whole line that answers it.
 
 use crate::code::Code;
 use crate::frame::{self, Frame};
@@ -97,7 +97,7 @@ pub fn run(program: &str, places: bool) -> Result<(String, bool), String> {
     Ok((report, right && status.success()))
 }
 
-/// Holds the lines of the script against document 01's answers.
+/// Holds the lines of the script against the answers of the marked examples.
 pub fn report(lines: &[u8], places: bool) -> (String, bool) {
     let text = String::from_utf8_lossy(lines);
     let (mut lines, mut report, mut right) = (text.split_terminator('\n'), String::new(), true);

@@ -1,5 +1,5 @@
 //! Where octets that are to be one element are first at fault.
-//! Follows document 02, request Four, and its readings. Octets without a fault need not come here.
+//! Follows docs/RULES.md, "Where octets are at fault", and its readings. Octets without a fault need not come here.
 
 use crate::octets::{self, Header, Length, CLOSING};
 

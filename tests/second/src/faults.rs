@@ -1,7 +1,7 @@
 //! Tables that break one rule each and states that are not sound, by name; those about names are in `name_faults`,
 //! those about resting ids in `resting_states`, those about probe and acknowledge in `probe_rows`, and those about kept
 //! answers in `kept_states`.
-//! Follows document 01, "Operation table" and "Records".
+//! Follows docs/RULES.md, "Operation table" and "Records".
 
 use crate::code::Code;
 use crate::kept_states;

@@ -1,5 +1,5 @@
 //! The fields of an APDU, taken one after another and each checked when it is taken, so that one walk is enough.
-//! Follows document 01, "The four APDUs", with document 02, requests Three and Five.
+//! Follows docs/RULES.md, "The four APDUs", "Indefinite lengths" and "Names".
 
 use crate::code::Code;
 use crate::octets::{self, Element, Header, Length, CLOSING};

@@ -1,5 +1,5 @@
 //! Kinds of fault that octets are made with, by name: what breaks a rule, and where it must stand to break it.
-//! Follows document 01, "Well-formed octets", with document 02, requests Three and Four, and their readings.
+//! Follows docs/RULES.md, "Well-formed octets", "Indefinite lengths" and "Where octets are at fault", and their readings.
 
 pub const IDENTIFIER: &str = "identifier";
 pub const HIGH_TAG: &str = "high tag";

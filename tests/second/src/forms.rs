@@ -1,5 +1,5 @@
 //! Rows of indefinite lengths: in which places of a received APDU or of a value to send they stand, and how deep.
-//! Follows document 02, request Three.
+//! Follows docs/RULES.md, "Indefinite lengths".
 
 use crate::answer::{Answer, Indication};
 use crate::apdu;

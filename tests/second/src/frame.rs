@@ -1,4 +1,4 @@
-//! Frames of a script and the state images: the input of the drive protocol, with those of its stages 5 to 7.
+//! Frames of a script and the state images: the input of the drive protocol, docs/DRIVE.md, "A frame".
 
 use crate::code::{Asked, Code, NAME_OCTETS};
 use crate::kept::{self, Kept};

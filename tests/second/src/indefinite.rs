@@ -1,5 +1,5 @@
 //! Named octets of indefinite length: elements that are and are not well-formed, APDUs with wrong and with right fields.
-//! Follows document 02, request Three, and its readings.
+//! Follows docs/RULES.md, "Indefinite lengths", and its readings.
 
 use crate::cases::Named;
 

@@ -1,5 +1,5 @@
 //! Arguments of probe and acknowledge by name: right ones in every form, and ones whose inside is wrong.
-//! Follows document 02, request Seven.
+//! Follows docs/RULES.md, "Probe and acknowledge".
 
 use crate::probe::{ACKNOWLEDGE, PROBE};
 use crate::values::{element, element_in_form, indefinite, integer_contents};

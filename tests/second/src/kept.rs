@@ -1,5 +1,5 @@
 //! The answers that this end gave last, kept so that a probe can fetch them.
-//! Follows document 02, request Seven.
+//! Follows docs/RULES.md, "Kept answers".
 
 use crate::state::{Side, State};
 

@@ -1,6 +1,6 @@
 //! What every call must leave kept, and what receive must write to answer a probe or acknowledge, from what its line
 //! and the state before it show.
-//! Follows document 02, request Seven.
+//! Follows docs/RULES.md, "Kept answers".
 
 use crate::answer::{Answer, Indication};
 use crate::apdu::{self, Apdu};

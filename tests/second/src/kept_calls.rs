@@ -1,5 +1,5 @@
 //! The generator's calls about kept answers: what is kept, what leaves, and what a probe then finds.
-//! Follows document 02, request Seven.
+//! Follows docs/RULES.md, "Kept answers".
 
 use crate::answer::Problem;
 use crate::apdu::Outgoing;

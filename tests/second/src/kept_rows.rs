@@ -1,5 +1,5 @@
 //! Rows of kept answers: which answers are kept and which not, and what a received Invoke with a kept id is.
-//! Follows document 02, request Seven.
+//! Follows docs/RULES.md, "Kept answers".
 
 use crate::apdu::{self, Apdu};
 use crate::code::Code;

@@ -1,5 +1,5 @@
 //! States with kept answers, by name: those that are not sound, and sound ones next to them.
-//! Follows document 02, request Seven.
+//! Follows docs/RULES.md, "Kept answers".
 
 use crate::faults::StateFault;
 use crate::kept::{Kept, OCTETS};

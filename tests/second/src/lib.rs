@@ -1,4 +1,4 @@
-//! Remote operations of X.219, X.229 and X.880 as fixed in document 01 and, up to request Seven, document 02: the engine
+//! Remote operations of X.219, X.229 and X.880 by the rules of docs/RULES.md: the engine
 //! of one end of an association (`engine`), a script player (`drive`), a script generator (`generate`) and checks that
 //! run on them.
 

@@ -1,4 +1,4 @@
-//! The generator's calls at, just below and just above each limit of document 01.
+//! The generator's calls at, just below and just above each limit of docs/RULES.md, "What is built".
 
 use crate::apdu::Outgoing;
 use crate::code::Code;

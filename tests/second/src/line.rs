@@ -1,5 +1,5 @@
 //! The line of a call, written and read.
-//! Follows the drive protocol, "Line", with the fields of its stages 4, 6 and 7 and the names of its stage 5.
+//! Follows the drive protocol, docs/DRIVE.md, "A line".
 
 use crate::answer::{Answer, Indication, Problem, Refusal};
 use crate::code::Code;

@@ -1,5 +1,5 @@
 //! Rows of the lookups of codes: in which list, how long it is, and where the code stands in it.
-//! Follows document 01's orders of check and document 02, requests Two and Five.
+//! Follows the orders of check of docs/RULES.md, "The search for a code" and "Names".
 
 use crate::answer::{Answer, Problem, Refusal};
 use crate::apdu::{self, Apdu, Invoke};

@@ -16,13 +16,13 @@ second repeat COUNT          play it, but make each call COUNT times from the st
 second generate SEED COUNT   write a script of COUNT calls
 second coverage              show what the generated scripts and captures reach; fails if a row is too rare
 second examples PROGRAM [places]
-                             play document 01's examples P1 to P12 on PROGRAM; fails if an answer differs
+                             play the marked examples P1 to P12 on PROGRAM; fails if an answer differs
 second compare PROGRAM SEEDS COUNT [places]
                              play scripts of COUNT calls here and on PROGRAM; SEEDS is how many seeds, or FROM..TO;
                              fails at the first difference
 second ends [PROGRAM] SEED COUNT
                              run a kiosk and a controller, both by PROGRAM if there is one, for COUNT calls;
-                             fails if demand 3 does not hold at each
+                             fails if at one of them something is shown that was not given
 second tables TABCHECK TABMAKE SEED COUNT
                              ask the two programs about COUNT tables, their texts, faults and extensions;
                              fails at the first answer that differs

@@ -1,5 +1,5 @@
 //! A table to be changed and written out: random ones, full ones, and tables that extend another.
-//! Follows document 01, "Operation table", with document 02, request Five.
+//! Follows docs/RULES.md, "Operation table" and "Names".
 
 use std::collections::BTreeSet;
 

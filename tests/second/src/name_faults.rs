@@ -1,5 +1,5 @@
 //! Tables of edition 2 that break one rule each, and states whose names are not right, by name.
-//! Follows document 02, request Five.
+//! Follows docs/RULES.md, "Names".
 
 use crate::code::{Code, Name, NAME_OCTETS};
 use crate::faults::{self, octets, rows, StateFault, TableFault};

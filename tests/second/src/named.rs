@@ -1,5 +1,5 @@
 //! Rows of codes that are names: how a code stands to those of the table, what is answered, and what holds names.
-//! Follows document 02, request Five.
+//! Follows docs/RULES.md, "Names".
 
 use crate::answer::{Answer, Indication, Problem, Refusal};
 use crate::apdu::{self, Apdu, Outgoing};

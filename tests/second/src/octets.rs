@@ -1,5 +1,5 @@
 //! Elements of BER: identifier, length and contents, reading and writing.
-//! Follows document 01, "Well-formed octets", with document 02, request Three.
+//! Follows docs/RULES.md, "Well-formed octets" and "Indefinite lengths".
 
 /// What stands behind the last element inside one of indefinite length.
 pub const CLOSING: [u8; 2] = [0x00, 0x00];

@@ -1,6 +1,6 @@
 //! Rows of places: each kind of fault, wherever the octets are given and however deep, what comes after it, and the
 //! answers that have a place beside those that have none.
-//! Follows document 02, request Four.
+//! Follows docs/RULES.md, "Where octets are at fault".
 
 use crate::flawed::Flaw;
 use crate::flaws::{Given, Second, BEHIND, CLASSES, CLOSING_OCTETS, KINDS, LEVEL, MISSING_CLOSE, OCTETS_BEHIND};

@@ -65,7 +65,7 @@ impl Played {
     }
 }
 
-/// What the line breaks of the papers' rules for every call, whatever the call asks.
+/// What the line breaks of the rules for every call, whatever the call asks.
 fn broken_rule(table: &Table<'_>, frame: &Frame<'_>, before: &State, line: &Line<'_>) -> Option<&'static str> {
     let rules = [
         (answers(frame.kind, &line.answer), "the call has no such answer"),

@@ -1,5 +1,5 @@
 //! Probe and acknowledge: their rules in a table, the ids that they ask about, and what receive answers.
-//! Follows document 02, request Seven.
+//! Follows docs/RULES.md, "Probe and acknowledge".
 
 use crate::apdu::Outgoing;
 use crate::code::Code;

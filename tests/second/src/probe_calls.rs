@@ -1,5 +1,5 @@
 //! The generator's calls about probe and acknowledge: what is asked about, in which form and with which room.
-//! Follows document 02, request Seven.
+//! Follows docs/RULES.md, "Probe and acknowledge".
 
 use crate::code::Code;
 use crate::faults;

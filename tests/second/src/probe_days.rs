@@ -1,5 +1,5 @@
 //! Days with probes and acknowledges: as they were, and ones that differ in what receive wrote.
-//! Follows document 02, requests One and Seven.
+//! Follows docs/RULES.md, "A day's capture, replayed" and "Probe and acknowledge".
 
 use crate::apdu;
 use crate::code::Code;

@@ -1,5 +1,5 @@
 //! The rows of probe and acknowledge in tables: right ones, and tables that break one of their rules each.
-//! Follows document 02, request Seven.
+//! Follows docs/RULES.md, "Probe and acknowledge".
 
 use crate::code::Code;
 use crate::extension;

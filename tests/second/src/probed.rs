@@ -1,5 +1,5 @@
 //! Rows of probe and acknowledge: what is found, in which tables and states, with which room, and what is refused.
-//! Follows document 02, request Seven.
+//! Follows docs/RULES.md, "Probe and acknowledge".
 
 use crate::answer::Answer;
 use crate::apdu::{self, Apdu, Invoke};

@@ -1,5 +1,5 @@
 //! What drawn captures reach of probe and acknowledge: what was found, and what stands around it.
-//! Follows document 02, requests One and Seven.
+//! Follows docs/RULES.md, "A day's capture, replayed" and "Probe and acknowledge".
 
 use std::collections::BTreeSet;
 

@@ -1,5 +1,5 @@
 //! Replays a capture on a fresh end: what was received is received again, what was sent is asked for again.
-//! Follows document 02, requests One, Five and Seven.
+//! Follows docs/RULES.md, "A day's capture, replayed", with names, kept answers and probes.
 
 use std::ffi::OsStr;
 use std::fs::File;

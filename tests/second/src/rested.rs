@@ -1,5 +1,5 @@
 //! Rows of resting ids: which of them an invoke has, what else would be refused, and what else meets one.
-//! Follows document 02, request Six.
+//! Follows docs/RULES.md, "Ids that rest".
 
 use crate::answer::{Answer, Indication};
 use crate::apdu::{self, Apdu, Invoke};

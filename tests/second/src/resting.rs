@@ -1,5 +1,5 @@
 //! The own ids that were forgotten last; no own invoke may have one of them.
-//! Follows document 02, request Six.
+//! Follows docs/RULES.md, "Ids that rest".
 
 use crate::state::{shown, Side, State};
 

@@ -1,5 +1,5 @@
 //! The generator's calls about resting ids: many forgets, late answers, and ids asked for again.
-//! Follows document 02, request Six.
+//! Follows docs/RULES.md, "Ids that rest".
 
 use crate::answer::Problem;
 use crate::apdu::Outgoing;

@@ -1,5 +1,5 @@
 //! States with resting ids, by name: those that are not sound, and sound ones next to them.
-//! Follows document 02, request Six.
+//! Follows docs/RULES.md, "Ids that rest".
 
 use crate::faults::StateFault;
 use crate::random::Random;

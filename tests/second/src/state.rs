@@ -1,5 +1,5 @@
 //! The records of open invocations on both sides, the resting ids, the kept answers, and when they are sound.
-//! Follows document 01, "Records" and the limits of "What is built", with document 02, requests Five to Seven.
+//! Follows docs/RULES.md, "Records", "Names", "Ids that rest" and "Kept answers", and the limits of "What is built".
 
 use crate::code::Code;
 use crate::kept::Kept;

@@ -1,5 +1,5 @@
 //! The operation table: validity in one pass, and lookup by code and by index.
-//! Follows document 01, "Operation table", with document 02, requests Five and Seven.
+//! Follows docs/RULES.md, "Operation table", "Names" and "Probe and acknowledge".
 
 use crate::code::{self, Code, Name, NAME_OCTETS};
 use crate::probe::{self, Listed};

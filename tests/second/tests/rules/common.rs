@@ -6,7 +6,7 @@ use second::frame::{self, Frame};
 use second::model::{ErrorRow, Model, OperationRow};
 use second::state::State;
 
-/// Table T of document 01.
+/// Table T of the marked examples.
 pub const T: &str = "0001 0010 0001 0018 0001 001E 0000 0022 00000007 02020200 00000001 0000 0000 0000";
 
 /// A state and a call in words with the answer as the drive protocol writes it.

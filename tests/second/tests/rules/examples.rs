@@ -1,4 +1,4 @@
-//! The marked examples P1 to P12 of document 01 by this program's engine, and what is said of other lines.
+//! The marked examples P1 to P12 by this program's engine, and what is said of other lines.
 
 use crate::common::lines;
 use second::examples::{report, script};

@@ -23,7 +23,7 @@ fn scripts_reach_every_row() {
 }
 
 #[test]
-fn demand_3_holds() {
+fn what_is_shown_was_given() {
     let (report, right) = ends::run(None, 1, 60_000).unwrap();
     assert!(right, "{report}");
 }

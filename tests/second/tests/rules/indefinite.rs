@@ -1,4 +1,4 @@
-//! The readings of document 02's request Three, indefinite lengths, as plain examples.
+//! The readings of "Indefinite lengths" as plain examples.
 
 use crate::common::{check, hex, lines, model, play, state, Case, T};
 use second::days::{self, Logged};

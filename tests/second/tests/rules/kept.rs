@@ -1,5 +1,5 @@
 //! Kept answers: what enters and leaves, which states are sound, and what lines and images show.
-//! Document 02, request Seven.
+//! docs/RULES.md, "Kept answers".
 
 use crate::common::{hex, model, play, state};
 use crate::readings::table;

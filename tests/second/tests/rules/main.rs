@@ -1,4 +1,4 @@
-//! The rules of document 01 and their readings as cases, and short runs of the generator's checks.
+//! The rules of docs/RULES.md and their readings as cases, and short runs of the generator's checks.
 
 mod captures;
 mod coding;

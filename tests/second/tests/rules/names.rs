@@ -1,4 +1,4 @@
-//! The readings of document 02's request Five, codes that are names, as plain examples.
+//! The readings of "Names", codes that are names, as plain examples.
 
 use crate::common::{hex, lines, play, T};
 use second::code::{self, Code, Name};

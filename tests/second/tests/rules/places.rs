@@ -1,4 +1,4 @@
-//! The readings of document 02's request Four, the place of the first fault, as plain examples, and faults made at
+//! The readings of "Where octets are at fault", the place of the first fault, as plain examples, and faults made at
 //! known places.
 
 use crate::common::{check, hex, model, play, state, Case};

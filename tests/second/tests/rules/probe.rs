@@ -1,6 +1,6 @@
 //! Probe and acknowledge: the rules of their operations, the room of receive, what is found, what is refused, and what
 //! the two ends and a replay make of them.
-//! Document 02, request Seven.
+//! docs/RULES.md, "Probe and acknowledge".
 
 use crate::common::{hex, model, play, state};
 use second::days::{self, Logged};

@@ -1,4 +1,4 @@
-//! The readings of document 01's open points, one case each where a case can show them.
+//! The readings of the open points of the rules, one case each where a case can show them.
 
 use crate::common::{check, hex, model, play, state, Case};
 use second::code::Code;

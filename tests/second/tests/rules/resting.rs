@@ -1,5 +1,5 @@
 //! Ids that rest: what enters and leaves, refusal 22 and its order, and which states are sound.
-//! Document 02, request Six.
+//! docs/RULES.md, "Ids that rest".
 
 use crate::common::{model, play, state};
 use crate::readings::table;

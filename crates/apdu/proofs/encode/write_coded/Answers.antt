@@ -10,10 +10,10 @@ use Rattle.apdu.proofs.encode.write_coded.Goals as goal
 pub returns : goal.returns
 returns c =
     let a = c.args in
-    let n = c.coded_size-n in
+    let n = c.coded_size-contents in
     let e = element_size a.first n.result (coded_fields a.id a.linked a.code (non_empty a.value.now)) n.ensures.value in
     written
     (stored_as (coded_by a.first a.id a.linked a.code a.value.now n.result n.ensures.value)
-    (stored_stored c.store_header-a.ensures (stored_stored c.store_integer-b.ensures (stored_stored c.store_linked-c.ensures
-    (then_put c.store_code-d.ensures c.put_octets.ensures (omega (arith, coded_size a.id a.linked a.code a.value.now)))))))
+    (stored_stored c.store_header-id_at.ensures (stored_stored c.store_integer-linked_at.ensures (stored_stored c.store_linked-code_at.ensures
+    (then_put c.store_code-value_at.ensures c.put_octets.ensures (omega (arith, coded_size a.id a.linked a.code a.value.now)))))))
     (omega (arith, e)) (omega (arith, e))

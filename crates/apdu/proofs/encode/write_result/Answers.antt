@@ -12,5 +12,5 @@ returns c =
     let e = result_size a.id.0 a.code a.value.now n (omega arith) in
     written
     (stored_as (result_by a.id.0 a.code a.value.now n (omega arith))
-    (stored_stored c.store_header-a.ensures (stored_stored c.store_integer-b.ensures c.store_body.ensures)))
+    (stored_stored c.store_header-id_at.ensures (stored_stored c.store_integer-body_at.ensures c.store_body.ensures)))
     (omega (arith, e)) (omega (arith, e))

@@ -1,16 +1,12 @@
-use Rattle.std.proofs.Common.{◌≡◌, ◌+◌, ◌-◌, ◌*◌, ◌≤◌, true}
+use Rattle.std.proofs.Common.{◌≡◌, ◌+◌, ◌*◌, ◌≤◌, true}
 use Rattle.base.specs.Count.{every}
 use Rattle.capture.specs.Format.{data_end, entry_right, placed}
 use Rattle.capture.proofs.validity.entries_end.Given as goal
 
 abbrev pub invariant-loop-i : goal.invariant-loop-i
 invariant-loop-i l = record {
-  passed : l.i ≤ l.n;
   end : l.at ≡ data_end l.capture l.i;
   right : every (entry_right l.capture) l.i ≡ true;
   placed : every (placed l.capture) l.i ≡ true;
   fits : l.at ≤ 4294967296 + 65536 * l.i;
 }
-
-abbrev pub decreases-loop-i : goal.decreases-loop-i
-decreases-loop-i l = l.n - l.i

@@ -1,28 +1,15 @@
-use Rattle.std.proofs.Common.{◌*◌, refl, sym, ◌∙◌, arith}
-use Rattle.records.specs.Limits.{answer_octets}
-use Rattle.records.proofs.PlaceLaws.{clear_long, clear_not, clear_next, clear_ended}
+use Rattle.std.proofs.Common.{◌∙◌, sym, refl}
+use Rattle.records.proofs.ClearLaws.{clear_block}
 use Rattle.records.proofs.answers.is_store_clear.Goals as goal
 
-pub returns-then-used-gt-ANSWER_OCTETS : goal.returns-then-used-gt-ANSWER_OCTETS
-returns-then-used-gt-ANSWER_OCTETS c =
-    let b = c.args in
-    sym (c.loop-i.invariant.left ∙ clear_long b.lengths.now b.store.now b.n c.loop-i.i (omega arith) (omega arith) c.if-used-gt-ANSWER_OCTETS.true)
-
-pub returns-then-not-are_octets_clear : goal.returns-then-not-are_octets_clear
-returns-then-not-are_octets_clear c =
-    let b = c.args in
-    sym (c.loop-i.invariant.left ∙ clear_not b.lengths.now b.store.now b.n c.loop-i.i (omega arith) (omega arith) _ (omega arith) _ refl (sym c.are_octets_clear.ensures ∙ c.if-not-are_octets_clear.true))
+pub returns-then-not-are_zero : goal.returns-then-not-are_zero
+returns-then-not-are_zero c =
+    sym (c.loop-i.invariant
+    ∙ clear_block c.args.places.now c.args.store.now c.loop-i.i c.loop-i-test.true c.if-used-gt-ANSWER_OCTETS.false c.are_zero.result c.are_zero.ensures
+    ∙ rw c.if-not-are_zero.true refl)
 
 pub loop-i-preserved : goal.loop-i-preserved
 loop-i-preserved c =
-    let b = c.args in
-    record {
-      in_range = omega arith;
-      left = c.loop-i.invariant.left ∙ clear_next b.lengths.now b.store.now b.n c.loop-i.i (omega arith) (omega arith) _ (omega arith) _ refl (sym c.are_octets_clear.ensures ∙ c.if-not-are_octets_clear.false) (omega arith);
-    }
-
-pub returns : goal.returns
-returns c =
-    let b = c.args in
-    c.are_octets_clear-2.ensures
-    ∙ sym (c.loop-i.invariant.left ∙ clear_ended b.lengths.now b.store.now b.n c.loop-i.i (omega arith) (b.n * answer_octets) (omega arith) (omega arith))
+    c.loop-i.invariant
+    ∙ clear_block c.args.places.now c.args.store.now c.loop-i.i c.loop-i-test.true c.if-used-gt-ANSWER_OCTETS.false c.are_zero.result c.are_zero.ensures
+    ∙ rw c.if-not-are_zero.false refl

@@ -1,5 +1,5 @@
 -- The result that an ENUMERATED stands in.
-use Rattle.rose.proofs.ReplyAnswers.{reply_written}
+use Rattle.rose.proofs.ReplyLaws.{reply_written}
 use Rattle.rose.proofs.reply.write_enumerated.Goals as goal
 
 pub returns : goal.returns

@@ -4,5 +4,5 @@ use Rattle.text.specs.Text.{each, hex_octet}
 use Rattle.text.specs.Out.{Adds}
 use Rattle.text.proofs.out.octets.Given as goal
 
-abbrev pub invariant-loop-i : goal.invariant-loop-i
-invariant-loop-i g l = Adds l.fn.out (each (λ b. 32 ∷ hex_octet b) (take l.i l.s)) l.out
+abbrev pub invariant-loop-b : goal.invariant-loop-b
+invariant-loop-b g l = Adds l.fn.out (each (λ b. 32 ∷ hex_octet b) (take l.b-index l.s)) l.out

@@ -1,0 +1,9 @@
+use Rattle.std.proofs.Common.{◌∙◌, sym, refl}
+use Rattle.records.proofs.ClearLaws.{zero_block}
+use Rattle.records.proofs.answers.are_clear_from.Goals as goal
+
+pub returns-then-not-are_zero : goal.returns-then-not-are_zero
+returns-then-not-are_zero c = sym (c.loop-i.invariant ∙ zero_block c.args.store.now c.loop-i.i c.are_zero.result c.are_zero.ensures ∙ rw c.if-not-are_zero.true refl)
+
+pub loop-i-preserved : goal.loop-i-preserved
+loop-i-preserved c = c.loop-i.invariant ∙ zero_block c.args.store.now c.loop-i.i c.are_zero.result c.are_zero.ensures ∙ rw c.if-not-are_zero.false refl

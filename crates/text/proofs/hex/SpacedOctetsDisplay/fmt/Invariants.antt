@@ -1,0 +1,9 @@
+-- What was written is the text of the octets passed.
+use Rattle.std.proofs.Common.{take}
+use Rattle.std.specs.Fmt.{HasWritten, IsPlainFormatter}
+use Rattle.text.specs.Text.{spaced_octets}
+use Rattle.text.proofs.hex.SpacedOctetsDisplay.fmt.Given as goal
+
+abbrev pub invariant-loop-octet : goal.invariant-loop-octet
+invariant-loop-octet g l =
+    IsPlainFormatter l.initial.f → HasWritten g.W.Write.write_str_gives l.initial.f (spaced_octets (take l.octet-index l.octet-items)) l.f

@@ -1,7 +1,0 @@
--- What was put is the text of the octets passed.
-use Rattle.std.proofs.Common.{[], ◌∷◌, take}
-use Rattle.text.specs.Text.{Said, each}
-use Rattle.text.proofs.words.Given as goal
-
-abbrev pub invariant-loop-i : goal.invariant-loop-i
-invariant-loop-i l = Said l.fn.line l.at (each (λ b. b ∷ []) (take l.i l.s)) l.line l.k
