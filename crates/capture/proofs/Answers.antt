@@ -1,5 +1,5 @@
 -- What each way out of a function answers, over plain variables: the facts that led there, and the definition's value.
-use Rattle.std.specs.Prelude.{None}
+use Rattle.std.specs.Prelude.{Option, None}
 use Prim.Native.Nat.{ℕ, suc, ◌+◌, ◌≤◌, ◌<◌}
 use native.Mathlib.Omega.{arith}
 use mathlib.Core.Path.{◌≡◌, refl, sym}
@@ -10,8 +10,9 @@ use lib.ListN.{length}
 use lib.Dec.{eqb}
 use Rattle.base.proofs.Tests.{and_false_left, and_false_right}
 use Rattle.base.specs.Count.{every}
-use Rattle.capture.specs.Format.{count, data_offset, size, offset, entry_right, data_end, placed, end_to_end}
-use Rattle.capture.specs.Entry.{entry_at, following}
+use Rattle.capture.specs.declared.kind.Kind.{Kind}
+use Rattle.capture.specs.Format.{count, data_offset, kind, size, offset, entry_right, data_end, placed, end_to_end}
+use Rattle.capture.specs.Entry.{kind_of, entry_at, following}
 use Rattle.base.proofs.CountLaws.{every_broken}
 
 -- ---- an entry
@@ -20,6 +21,14 @@ module _ (t : List ℕ) (i : ℕ) where
   pub no_entry : count t ≤ i → record { kind = None; at = 0; end = 0 } ≡ entry_at t i
   unfolding entry_at
   no_entry h = simp (le-ltb _ _ h)
+
+  pub is_entry : i < count t → (k : Option Kind) (a n : ℕ) → k ≡ kind_of (kind t i) → a ≡ offset t i → n ≡ a + size t i → record { kind = k; at = a; end = n } ≡ entry_at t i
+  unfolding entry_at
+  is_entry h k a n e f g = simp (lt-ltb _ _ h) (rw (e, g, f) refl)
+
+  pub none_following : count t ≤ i → i ≡ following t i
+  unfolding following
+  none_following h = simp (le-ltb _ _ h)
 
   pub one_following : i < count t → i + 1 ≡ following t i
   unfolding following
