@@ -2,6 +2,7 @@
 use codes::Code;
 use std::fmt;
 use text::hex::Octets;
+use text::number::Signed;
 
 // A code: a signed number, or a name in hexadecimal. Not Code's own Display, since each program has its own words for a code.
 #[derive(Clone, Copy)]
@@ -10,7 +11,7 @@ pub(crate) struct Coded(pub(crate) Code);
 impl fmt::Display for Coded {
     fn fmt<W: fmt::Write>(&self, f: &mut fmt::Formatter<W>) -> fmt::Result {
         match self.0 {
-            Code::Local(bits) => write!(f, "{}", bits.cast_signed()),
+            Code::Local(bits) => write!(f, "{}", Signed(bits)),
             Code::Global(name) => write!(f, "name {}", Octets(name.contents())),
         }
     }

@@ -3,12 +3,12 @@ use crate::arguments::Asked;
 use crate::call::{Answer, Before, Call, Store};
 use crate::frame::Content;
 use crate::image::imaged;
-use crate::line::{Line, SPOILABLE};
+use crate::line::{Line, SPOILABLE, WholeLine};
 use arrayvec::ArrayVec;
 use records::State;
 use std::fmt::Write as _;
 use std::io::Write;
-use text::out::Out;
+use text::out::{Out, words};
 
 #[derive(Drop)]
 pub(crate) struct End {
@@ -34,10 +34,11 @@ impl End {
         }
     }
 
-    // What a frame brings: of a call the line is written. The output that is lent is as large as the frame says.
+    // What a frame brings: of a call the line is written, at once, since it answers another program. The output that is lent is as large as the frame says.
     pub(crate) fn take(
         &mut self,
         to: &mut Out<impl Write>,
+        whole: &mut WholeLine,
         asked: Asked,
         content: Content,
         out: &mut [u8],
@@ -58,8 +59,10 @@ impl End {
                     lent: out,
                     places: asked.places,
                 };
-                // What is put out is always taken, so that there is no error to pass on.
-                let _ = writeln!(to, "{line}");
+                whole.clear();
+                // It has room for every line, so that there is no error to pass on.
+                let _ = writeln!(whole, "{line}");
+                words(to, whole.as_bytes());
             }
         }
     }

@@ -6,10 +6,14 @@ use crate::resting::RestingLine;
 use crate::shown::{OctetsOrDash, OrNone};
 use crate::side::SideLine;
 use apdu::Span;
+use arrayvec::ArrayString;
 use std::fmt;
 
 // What lent output is filled with before a call, so that a spoiled octet shows.
 pub(crate) const SPOILABLE: u8 = 0xA5;
+
+// A line before it is written. It has more octets than a line: those of a value and of what is written, in hexadecimal, and those of the state.
+pub(crate) type WholeLine = ArrayString<300000>;
 
 #[derive(Clone, Copy)]
 pub(crate) struct Line<'a> {

@@ -11,6 +11,7 @@ use protocol::Indication;
 use records::OwnId;
 use std::fmt::Write as _;
 use std::io::Write;
+use text::number::Signed;
 use text::out::Out;
 
 // Asks for a reading of a probe, and hands back the octets to send, none of a refused request. The end keeps the state then.
@@ -69,5 +70,5 @@ pub(crate) fn receive<'a>(
 
 // A number by its two's complement bits. What is put out is always taken, so that there is no error to pass on.
 fn show(to: &mut Out<impl Write>, what: &str, bits: u32) {
-    let _ = writeln!(to, "kiosk got   {what} {}", bits.cast_signed());
+    let _ = writeln!(to, "kiosk got   {what} {}", Signed(bits));
 }

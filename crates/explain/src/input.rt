@@ -57,13 +57,14 @@ fn has_arguments(rt: &impl Env) -> bool {
     argument_count(rt) > 1
 }
 
-// The arguments, each with a line end, so that its number is that of its line. They are counted by hand, since std's iterator over them asks for memory.
+// The arguments, each with a line end, so that its number is that of its line. They are asked for by number, since std's iterator over them asks for memory.
 fn arguments(
     rt: &impl Env,
+    count: usize,
     text: &mut ArrayVec<u8, ROOM>,
     argument: &mut [u8],
 ) -> Result<(), Complaint<'static>> {
-    for i in 1..argument_count(rt) {
+    for i in 1..count {
         let n = rt.arg(i, argument).map_err(|_| Complaint::TooLong)?;
         text.try_extend_from_slice(&argument[..n])
             .map_err(|_| Complaint::TooLong)?;
@@ -79,8 +80,9 @@ pub(crate) fn read_text<'a>(
     text: &'a mut ArrayVec<u8, ROOM>,
     buffer: &'a mut [u8],
 ) -> Result<&'a [u8], Complaint<'a>> {
-    let given = if has_arguments(rt) {
-        arguments(rt, text, buffer)?;
+    let count = argument_count(rt);
+    let given = if count > 1 {
+        arguments(rt, count, text, buffer)?;
         text.as_slice()
     } else {
         let n = read_full(input, buffer);

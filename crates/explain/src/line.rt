@@ -3,6 +3,7 @@ use crate::identifier::Identifier;
 use crate::octets::FirstOctets;
 use ber::integer::integer_of;
 use std::fmt;
+use text::number::Signed;
 
 #[derive(Clone, Copy)]
 pub(crate) struct Line<'a> {
@@ -94,7 +95,7 @@ impl fmt::Display for Contents<'_> {
         }
         if self.identifier.is_number() {
             if let Some(bits) = integer_of(self.contents) {
-                return write!(f, " {}", bits.cast_signed());
+                return write!(f, " {}", Signed(bits));
             }
         }
         write!(f, "{}", FirstOctets(self.contents))

@@ -5,6 +5,7 @@ use std::fmt;
 use std::fmt::Write as _;
 use std::io::Write;
 use text::hex::SpacedOctets;
+use text::number::Signed;
 use text::out::{Out, problem_name};
 
 // What makes octets no right APDU.
@@ -81,7 +82,7 @@ fn answer_line(out: &mut Out<impl Write>, fault: Fault) -> fmt::Result {
     )?;
     match fault.id() {
         None => writeln!(out, ", with no invocation"),
-        Some(bits) => writeln!(out, ", with invocation {}", bits.cast_signed()),
+        Some(bits) => writeln!(out, ", with invocation {}", Signed(bits)),
     }
 }
 

@@ -7,6 +7,7 @@ use std::fmt;
 use std::fmt::Write as _;
 use std::io::Write;
 use text::hex::Octets;
+use text::number::Signed;
 use text::out::{Out, problem_name};
 
 // A code: one that is none equals no table's. Not Code's own Display, since each program has its own words for a code.
@@ -16,7 +17,7 @@ struct Coded(Option<Code>);
 impl fmt::Display for Coded {
     fn fmt<W: fmt::Write>(&self, f: &mut fmt::Formatter<W>) -> fmt::Result {
         match self.0 {
-            Some(Code::Local(bits)) => write!(f, "{}", bits.cast_signed()),
+            Some(Code::Local(bits)) => write!(f, "{}", Signed(bits)),
             Some(Code::Global(name)) => write!(f, "name {}", Octets(name.contents())),
             None => write!(
                 f,
@@ -53,7 +54,7 @@ struct Number(Option<u32>);
 impl fmt::Display for Number {
     fn fmt<W: fmt::Write>(&self, f: &mut fmt::Formatter<W>) -> fmt::Result {
         match self.0 {
-            Some(bits) => write!(f, "{}", bits.cast_signed()),
+            Some(bits) => write!(f, "{}", Signed(bits)),
             None => write!(f, "none"),
         }
     }
@@ -82,14 +83,14 @@ pub(crate) fn said_lines(out: &mut Out<impl Write>, octets: &[u8], said: Parsed)
             value,
         } => {
             writeln!(out, "Invoke")?;
-            writeln!(out, "  invocation  {}", id.0.cast_signed())?;
+            writeln!(out, "  invocation  {}", Signed(id.0))?;
             writeln!(out, "  linked to   {}", Number(linked.map(|id| id.0)))?;
             writeln!(out, "  operation   {}", Coded(code))?;
             writeln!(out, "  argument   {}", Valued { octets, value })
         }
         Parsed::Result { id, body } => {
             writeln!(out, "ReturnResult")?;
-            writeln!(out, "  invocation  {}", id.0.cast_signed())?;
+            writeln!(out, "  invocation  {}", Signed(id.0))?;
             let Some(body) = body else {
                 return writeln!(out, "  no value");
             };
@@ -99,7 +100,7 @@ pub(crate) fn said_lines(out: &mut Out<impl Write>, octets: &[u8], said: Parsed)
         }
         Parsed::Error { id, code, value } => {
             writeln!(out, "ReturnError")?;
-            writeln!(out, "  invocation  {}", id.0.cast_signed())?;
+            writeln!(out, "  invocation  {}", Signed(id.0))?;
             writeln!(out, "  error       {}", Coded(code))?;
             writeln!(out, "  parameter  {}", Valued { octets, value })
         }

@@ -81,7 +81,7 @@ said_as {l} {at} {s} {t} {p} {r} e x = subst (λ (u : List ℕ). Said l at u p r
 
 -- ---- octet by octet
 
-each_append : (f : ℕ → List ℕ) (s t : List ℕ) → each f (s ++ t) ≡ each f s ++ each f t
+pub each_append : (f : ℕ → List ℕ) (s t : List ℕ) → each f (s ++ t) ≡ each f s ++ each f t
 each_append f [] t = refl
 each_append f (b ∷ s) t = ap (λ (u : List ℕ). f b ++ u) (each_append f s t) ∙ sym (append_assoc (f b) (each f s) (each f t))
 

@@ -1,3 +1,4 @@
 mod Laws
 mod HexLaws
 mod OutLaws
+mod ShownLaws

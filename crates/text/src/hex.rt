@@ -1,10 +1,11 @@
 // Octets read from hexadecimal text: two digits of either case for each, which stand together.
 // Between octets, blanks and line ends are passed over, and from a # on everything up to the end of its line.
-ghost use Rattle.std.specs.Prelude.{◌≡◌, Ok, Some};
+ghost use Rattle.std.specs.Prelude.{◌≡◌, ◌≤◌, Ok, Some, length};
 ghost use Rattle.text.specs.Hex.{is_blank, digit_of, between, comment, answer, Read};
 ghost use Rattle.text.specs.Steps.{Sound, Moved};
 ghost use Rattle.text.specs.Text.{hex_octets, spaced_octets};
 
+use crate::{octets, spaced_octets};
 use std::fmt;
 
 // What is wrong with a text: the place of a character that cannot stand there, an octet at its end with one digit only, more octets than fit.
@@ -29,6 +30,18 @@ pub(crate) struct Reading {
     pub(crate) count: usize,
 }
 
+// So many octets are shown at once, since each text that is written has a cost of its own.
+const AT_ONCE: usize = 32;
+
+// The digits of a few octets, put into a line.
+fn digits<'a>(few: &[u8], line: &'a mut [u8; 64]) -> &'a str
+    requires { length few.now ≤ 32 }
+    ensures { result.now ≡ hex_octets few.now }
+{
+    let end = octets(line, 0, few);
+    std::str::from_utf8(&line[..end]).unwrap_or("")
+}
+
 // Octets in hexadecimal, two digits in lower case for each, without blanks.
 #[derive(Clone, Copy)]
 pub struct Octets<'a>(pub &'a [u8]);
@@ -37,11 +50,20 @@ impl fmt::Display for Octets<'_> {
     ghost output = { λ octets. Some (hex_octets octets.0.now) };
 
     fn fmt<W: fmt::Write>(&self, f: &mut fmt::Formatter<W>) -> fmt::Result {
-        for &octet in self.0 {
-            write!(f, "{octet:02x}")?;
+        for few in self.0.chunks(AT_ONCE) {
+            f.write_str(digits(few, &mut [0; 64]))?;
         }
         Ok(())
     }
+}
+
+// The digits of a few octets, a space before each octet, put into a line.
+fn spaced_digits<'a>(few: &[u8], line: &'a mut [u8; 96]) -> &'a str
+    requires { length few.now ≤ 32 }
+    ensures { result.now ≡ spaced_octets few.now }
+{
+    let end = spaced_octets(line, 0, few);
+    std::str::from_utf8(&line[..end]).unwrap_or("")
 }
 
 // The same, a space before each octet.
@@ -52,8 +74,8 @@ impl fmt::Display for SpacedOctets<'_> {
     ghost output = { λ octets. Some (spaced_octets octets.0.now) };
 
     fn fmt<W: fmt::Write>(&self, f: &mut fmt::Formatter<W>) -> fmt::Result {
-        for &octet in self.0 {
-            write!(f, " {octet:02x}")?;
+        for few in self.0.chunks(AT_ONCE) {
+            f.write_str(spaced_digits(few, &mut [0; 96]))?;
         }
         Ok(())
     }

@@ -6,6 +6,7 @@ pub mod fault;
 pub mod hex;
 pub mod input;
 pub mod item;
+pub mod number;
 pub mod out;
 pub mod problem;
 

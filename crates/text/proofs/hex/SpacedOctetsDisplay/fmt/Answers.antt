@@ -1,12 +1,20 @@
-use Rattle.std.proofs.Common.{rules, arith, false, get_or, ◌∙◌, sym, ap, ◌∷◌}
-use Rattle.std.proofs.Output.{has_written_append, has_written_of_eq}
-use Rattle.std.proofs.lemmas.Fmt.{hex_byte}
+use Rattle.std.proofs.Common.{rules, arith, ◌++◌, ◌∷◌}
+use Rattle.std.proofs.Output.{has_written_append}
 use Rattle.std.specs.Fmt.{HasWritten}
-use Rattle.text.specs.Text.{hex_octet}
-use Rattle.text.proofs.Laws.{each_more}
+use Rattle.std.specs.Slice.Iter.{chunks_rest}
+use Rattle.text.specs.Text.{hex_octet, spaced_octets}
+use Rattle.text.proofs.ShownLaws.{each_next}
 use Rattle.text.proofs.hex.SpacedOctetsDisplay.fmt.Goals as goal
 
-pub loop-octet-preserved : goal.loop-octet-preserved
-loop-octet-preserved g c = λ p.
-    let now : HasWritten g.W.Write.write_str_gives c.loop-octet.f (32 ∷ hex_octet (get_or c.args.self.now.0.now c.loop-octet.octet-index 0)) c.write.new.self = has_written_of_eq _ _ _ _ _ (ap (λ s. 32 ∷ s) (hex_byte false _ (omega arith))) (let q = c.loop-octet.invariant p in search rules) in
-    has_written_of_eq _ _ _ _ _ (each_more (λ b. 32 ∷ hex_octet b) c.args.self.now.0.now c.loop-octet.octet-index (omega arith)) (has_written_append _ _ _ _ _ _ (c.loop-octet.invariant p) now)
+pub loop-few-preserved : goal.loop-few-preserved
+loop-few-preserved g c =
+    let s = c.in-Some.ensures.steps in
+    let i = c.loop-few.invariant in (
+      omega (arith, s.0, i.2),
+      tt,
+      omega (arith, s.0, i.2),
+      λ p.
+          let w = i.3 p in
+          let now : HasWritten g.W.Write.write_str_gives c.loop-few.f (spaced_octets c.in-Some.few.now) c.write_str.new.self = let q = w.1.0 in search rules in
+          (w.0 ++ spaced_octets c.in-Some.few.now, (has_written_append _ _ _ _ _ _ w.1.0 now, each_next (λ b. 32 ∷ hex_octet b) w.0 c.in-Some.few.now (chunks_rest c.next.new.self) s.1.0 w.1.1)),
+    )

@@ -1,0 +1,92 @@
+-- What is put into a line to be shown: it is text and stands at the line's front; and of octets that are shown a few at once one text stands behind the other.
+use Prim.Native.Nat.{ℕ, zero, suc, ◌+◌, ◌-◌, ◌*◌, ◌/◌, ◌%◌, ◌≤◌, ◌<◌}
+use mathlib.Core.Path.{◌≡◌, refl, sym, ap, ◌∙◌}
+use mathlib.Core.Bool.{cond}
+use mathlib.Core.List.{List, [], ◌∷◌, ◌++◌, append_assoc}
+use native.Mathlib.Omega.{arith}
+use lib.Dec.{ltb}
+use lib.ListN.{length, get_or, take, drop, length-append}
+use lib.Seq.{sets-eq, take-append-le, take_all}
+use Rattle.std.specs.Prelude.{IsUtf8, IsAscii}
+use Rattle.std.proofs.lemmas.Bool.Decides.{nat_tests}
+use Rattle.std.proofs.lemmas.Str.{IsUtf8-from_ascii}
+use Rattle.std.proofs.lemmas.Str.Ascii.{IsAscii-nil, IsAscii-cons, IsAscii-push}
+use Rattle.io.specs.Digits.{hex_digit_ascii}
+use Rattle.base.proofs.Tests.{cond_elim}
+use Rattle.text.specs.Text.{Said, each, hex_octet, hex_octets, spaced_octets, decimal_within, decimal_digits, signed_digits}
+use Rattle.text.proofs.Laws.{each_append}
+
+-- ---- digits are text
+
+digit_low : (d : ℕ) → d < 16 → hex_digit_ascii d < 128
+digit_low d h = grind (arith, nat_tests)
+
+octet_ascii : (b : ℕ) → b < 256 → (t : List ℕ) → IsAscii t → IsAscii (hex_octet b ++ t)
+octet_ascii b h t a =
+    IsAscii-cons (hex_digit_ascii (b / 16)) (hex_digit_ascii (b % 16) ∷ t) (digit_low (b / 16) (omega arith)) (IsAscii-cons (hex_digit_ascii (b % 16)) t (digit_low (b % 16) (omega arith)) a)
+
+hex_ascii : (s : List ℕ) → ((i : ℕ) → get_or s i 0 < 256) → IsAscii (hex_octets s)
+hex_ascii [] h = IsAscii-nil
+hex_ascii (b ∷ s) h = octet_ascii b (h 0) (hex_octets s) (hex_ascii s (λ i. h (suc i)))
+
+spaced_ascii : (s : List ℕ) → ((i : ℕ) → get_or s i 0 < 256) → IsAscii (spaced_octets s)
+spaced_ascii [] h = IsAscii-nil
+spaced_ascii (b ∷ s) h = IsAscii-cons 32 (hex_octet b ++ spaced_octets s) (omega arith) (octet_ascii b (h 0) (spaced_octets s) (spaced_ascii s (λ i. h (suc i))))
+
+pub hex_text : (s : List ℕ) → ((i : ℕ) → get_or s i 0 < 256) → IsUtf8 (hex_octets s)
+hex_text s h = IsUtf8-from_ascii (hex_octets s) (hex_ascii s h)
+
+pub spaced_text : (s : List ℕ) → ((i : ℕ) → get_or s i 0 < 256) → IsUtf8 (spaced_octets s)
+spaced_text s h = IsUtf8-from_ascii (spaced_octets s) (spaced_ascii s h)
+
+decimal_ascii : (k n : ℕ) → IsAscii (decimal_within k n)
+unfolding decimal_within
+decimal_ascii zero n = IsAscii-nil
+decimal_ascii (suc k) n =
+    let before : IsAscii (cond (ltb n 10) [] (decimal_within k (n / 10))) = cond_elim (λ t. IsAscii t) (ltb n 10) [] (decimal_within k (n / 10)) (λ _. IsAscii-nil) (λ _. decimal_ascii k (n / 10)) in
+    IsAscii-push (cond (ltb n 10) [] (decimal_within k (n / 10))) (hex_digit_ascii (n % 10)) before (digit_low (n % 10) (omega arith))
+
+pub signed_text : (bits : ℕ) → IsUtf8 (signed_digits bits)
+signed_text bits =
+    IsUtf8-from_ascii (signed_digits bits)
+    (cond_elim (λ t. IsAscii t) (ltb bits 0x80000000) (decimal_digits bits) (45 ∷ decimal_digits (0x100000000 - bits)) (λ _. decimal_ascii 20 bits) (λ _. IsAscii-cons 45 (decimal_digits (0x100000000 - bits)) (omega arith) (decimal_ascii 20 (0x100000000 - bits))))
+
+-- ---- they stand at the front of a line that has room for them
+
+said_front : {l : List ℕ} (s : List ℕ) {p : List ℕ} {r : ℕ} → Said l 0 s p r → length s ≤ length l → take r p ≡ s
+said_front {l} s {p} {r} x h =
+    let q : r ≡ length s = omega (arith, x.behind) in
+    (λ i. take (q i) (x.stored i)) ∙ ap (take (length s)) (sets-eq s l 0 (omega arith)) ∙ take-append-le (length s) s (drop (0 + length s) l) (omega arith) ∙ take_all (length s) s (omega arith)
+
+hex_length : (s : List ℕ) → length (hex_octets s) ≡ 2 * length s
+hex_length [] = refl
+hex_length (b ∷ s) = omega (arith, hex_length s)
+
+spaced_length : (s : List ℕ) → length (spaced_octets s) ≡ 3 * length s
+spaced_length [] = refl
+spaced_length (b ∷ s) = omega (arith, spaced_length s)
+
+pub hex_there : {l : List ℕ} (s : List ℕ) {p : List ℕ} {r : ℕ} → Said l 0 (hex_octets s) p r → length l ≡ 64 → length s ≤ 32 → take r p ≡ hex_octets s
+hex_there {l} s {p} {r} x e h = said_front (hex_octets s) x (omega (arith, hex_length s))
+
+pub spaced_there : {l : List ℕ} (s : List ℕ) {p : List ℕ} {r : ℕ} → Said l 0 (spaced_octets s) p r → length l ≡ 96 → length s ≤ 32 → take r p ≡ spaced_octets s
+spaced_there {l} s {p} {r} x e h = said_front (spaced_octets s) x (omega (arith, spaced_length s))
+
+decimal_length : (k n : ℕ) → length (decimal_within k n) ≤ k
+unfolding decimal_within
+decimal_length zero n = omega arith
+decimal_length (suc k) n =
+    let h : length (cond (ltb n 10) [] (decimal_within k (n / 10))) ≤ k = cond_elim (λ (t : List ℕ). length t ≤ k) (ltb n 10) [] (decimal_within k (n / 10)) (λ _. omega arith) (λ _. decimal_length k (n / 10)) in
+    omega (arith, h, length-append (cond (ltb n 10) [] (decimal_within k (n / 10))) (hex_digit_ascii (n % 10) ∷ []))
+
+signed_length : (bits : ℕ) → length (signed_digits bits) ≤ 21
+signed_length bits =
+    cond_elim (λ (t : List ℕ). length t ≤ 21) (ltb bits 0x80000000) (decimal_digits bits) (45 ∷ decimal_digits (0x100000000 - bits)) (λ _. omega (arith, decimal_length 20 bits)) (λ _. omega (arith, decimal_length 20 (0x100000000 - bits)))
+
+pub signed_there : {l : List ℕ} (bits : ℕ) {p : List ℕ} {r : ℕ} → Said l 0 (signed_digits bits) p r → length l ≡ 21 → take r p ≡ signed_digits bits
+signed_there {l} bits {p} {r} x e = said_front (signed_digits bits) x (omega (arith, signed_length bits))
+
+-- ---- of octets that are left, the text of the next few stands behind what was written
+
+pub each_next : (f : ℕ → List ℕ) (w few more : List ℕ) {left t : List ℕ} → left ≡ few ++ more → w ++ each f left ≡ t → (w ++ each f few) ++ each f more ≡ t
+each_next f w few more {left} {t} e h = append_assoc w (each f few) (each f more) ∙ ap (λ (x : List ℕ). w ++ x) (sym (each_append f few more)) ∙ ap (λ (x : List ℕ). w ++ each f x) (sym e) ∙ h
