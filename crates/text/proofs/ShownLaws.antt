@@ -1,7 +1,7 @@
 -- What is put into a line to be shown: it is text and stands at the line's front; and of octets that are shown a few at once one text stands behind the other.
 use Prim.Native.Nat.{ℕ, zero, suc, ◌+◌, ◌-◌, ◌*◌, ◌/◌, ◌%◌, ◌≤◌, ◌<◌}
-use mathlib.Core.Path.{◌≡◌, refl, sym, ap, ◌∙◌}
-use mathlib.Core.Bool.{cond}
+use mathlib.Core.Path.{◌≡◌, sym, ap, ◌∙◌}
+use mathlib.Core.Bool.{Bool, true, false, cond}
 use mathlib.Core.List.{List, [], ◌∷◌, ◌++◌, append_assoc}
 use native.Mathlib.Omega.{arith}
 use lib.Dec.{ltb}
@@ -13,7 +13,7 @@ use Rattle.std.proofs.lemmas.Str.{IsUtf8-from_ascii}
 use Rattle.std.proofs.lemmas.Str.Ascii.{IsAscii-nil, IsAscii-cons, IsAscii-push}
 use Rattle.io.specs.Digits.{hex_digit_ascii}
 use Rattle.base.proofs.Tests.{cond_elim}
-use Rattle.text.specs.Text.{Said, each, hex_octet, hex_octets, spaced_octets, decimal_within, decimal_digits, signed_digits}
+use Rattle.text.specs.Text.{Said, each, hex_octet, octet_shown, decimal_within, decimal_digits, signed_digits}
 use Rattle.text.proofs.Laws.{each_append}
 
 -- ---- digits are text
@@ -25,19 +25,13 @@ octet_ascii : (b : ℕ) → b < 256 → (t : List ℕ) → IsAscii t → IsAscii
 octet_ascii b h t a =
     IsAscii-cons (hex_digit_ascii (b / 16)) (hex_digit_ascii (b % 16) ∷ t) (digit_low (b / 16) (omega arith)) (IsAscii-cons (hex_digit_ascii (b % 16)) t (digit_low (b % 16) (omega arith)) a)
 
-hex_ascii : (s : List ℕ) → ((i : ℕ) → get_or s i 0 < 256) → IsAscii (hex_octets s)
-hex_ascii [] h = IsAscii-nil
-hex_ascii (b ∷ s) h = octet_ascii b (h 0) (hex_octets s) (hex_ascii s (λ i. h (suc i)))
+octets_ascii : (d : Bool) (s : List ℕ) → ((i : ℕ) → get_or s i 0 < 256) → IsAscii (each (octet_shown d) s)
+octets_ascii d [] h = IsAscii-nil
+octets_ascii false (b ∷ s) h = octet_ascii b (h 0) (each (octet_shown false) s) (octets_ascii false s (λ i. h (suc i)))
+octets_ascii true (b ∷ s) h = IsAscii-cons 32 (hex_octet b ++ each (octet_shown true) s) (omega arith) (octet_ascii b (h 0) (each (octet_shown true) s) (octets_ascii true s (λ i. h (suc i))))
 
-spaced_ascii : (s : List ℕ) → ((i : ℕ) → get_or s i 0 < 256) → IsAscii (spaced_octets s)
-spaced_ascii [] h = IsAscii-nil
-spaced_ascii (b ∷ s) h = IsAscii-cons 32 (hex_octet b ++ spaced_octets s) (omega arith) (octet_ascii b (h 0) (spaced_octets s) (spaced_ascii s (λ i. h (suc i))))
-
-pub hex_text : (s : List ℕ) → ((i : ℕ) → get_or s i 0 < 256) → IsUtf8 (hex_octets s)
-hex_text s h = IsUtf8-from_ascii (hex_octets s) (hex_ascii s h)
-
-pub spaced_text : (s : List ℕ) → ((i : ℕ) → get_or s i 0 < 256) → IsUtf8 (spaced_octets s)
-spaced_text s h = IsUtf8-from_ascii (spaced_octets s) (spaced_ascii s h)
+pub octets_text : (d : Bool) (s : List ℕ) → ((i : ℕ) → get_or s i 0 < 256) → IsUtf8 (each (octet_shown d) s)
+octets_text d s h = IsUtf8-from_ascii (each (octet_shown d) s) (octets_ascii d s h)
 
 decimal_ascii : (k n : ℕ) → IsAscii (decimal_within k n)
 unfolding decimal_within
@@ -53,24 +47,15 @@ signed_text bits =
 
 -- ---- they stand at the front of a line that has room for them
 
-said_front : {l : List ℕ} (s : List ℕ) {p : List ℕ} {r : ℕ} → Said l 0 s p r → length s ≤ length l → take r p ≡ s
-said_front {l} s {p} {r} x h =
+pub front : {l : List ℕ} (s : List ℕ) {p : List ℕ} {r : ℕ} → Said l 0 s p r → length s ≤ length l → take r p ≡ s
+front {l} s {p} {r} x h =
     let q : r ≡ length s = omega (arith, x.behind) in
     (λ i. take (q i) (x.stored i)) ∙ ap (take (length s)) (sets-eq s l 0 (omega arith)) ∙ take-append-le (length s) s (drop (0 + length s) l) (omega arith) ∙ take_all (length s) s (omega arith)
 
-hex_length : (s : List ℕ) → length (hex_octets s) ≡ 2 * length s
-hex_length [] = refl
-hex_length (b ∷ s) = omega (arith, hex_length s)
-
-spaced_length : (s : List ℕ) → length (spaced_octets s) ≡ 3 * length s
-spaced_length [] = refl
-spaced_length (b ∷ s) = omega (arith, spaced_length s)
-
-pub hex_there : {l : List ℕ} (s : List ℕ) {p : List ℕ} {r : ℕ} → Said l 0 (hex_octets s) p r → length l ≡ 64 → length s ≤ 32 → take r p ≡ hex_octets s
-hex_there {l} s {p} {r} x e h = said_front (hex_octets s) x (omega (arith, hex_length s))
-
-pub spaced_there : {l : List ℕ} (s : List ℕ) {p : List ℕ} {r : ℕ} → Said l 0 (spaced_octets s) p r → length l ≡ 96 → length s ≤ 32 → take r p ≡ spaced_octets s
-spaced_there {l} s {p} {r} x e h = said_front (spaced_octets s) x (omega (arith, spaced_length s))
+pub octets_length : (d : Bool) (s : List ℕ) → length (each (octet_shown d) s) ≤ 3 * length s
+octets_length d [] = omega arith
+octets_length false (b ∷ s) = omega (arith, octets_length false s)
+octets_length true (b ∷ s) = omega (arith, octets_length true s)
 
 decimal_length : (k n : ℕ) → length (decimal_within k n) ≤ k
 unfolding decimal_within
@@ -79,12 +64,9 @@ decimal_length (suc k) n =
     let h : length (cond (ltb n 10) [] (decimal_within k (n / 10))) ≤ k = cond_elim (λ (t : List ℕ). length t ≤ k) (ltb n 10) [] (decimal_within k (n / 10)) (λ _. omega arith) (λ _. decimal_length k (n / 10)) in
     omega (arith, h, length-append (cond (ltb n 10) [] (decimal_within k (n / 10))) (hex_digit_ascii (n % 10) ∷ []))
 
-signed_length : (bits : ℕ) → length (signed_digits bits) ≤ 21
+pub signed_length : (bits : ℕ) → length (signed_digits bits) ≤ 21
 signed_length bits =
     cond_elim (λ (t : List ℕ). length t ≤ 21) (ltb bits 0x80000000) (decimal_digits bits) (45 ∷ decimal_digits (0x100000000 - bits)) (λ _. omega (arith, decimal_length 20 bits)) (λ _. omega (arith, decimal_length 20 (0x100000000 - bits)))
-
-pub signed_there : {l : List ℕ} (bits : ℕ) {p : List ℕ} {r : ℕ} → Said l 0 (signed_digits bits) p r → length l ≡ 21 → take r p ≡ signed_digits bits
-signed_there {l} bits {p} {r} x e = said_front (signed_digits bits) x (omega (arith, signed_length bits))
 
 -- ---- of octets that are left, the text of the next few stands behind what was written
 

@@ -1,5 +1,5 @@
 -- Words, numbers and octets as text, and what a function that puts text into a line promises.
-use Rattle.std.specs.Prelude.{ℕ, zero, suc, ◌+◌, ◌-◌, ◌/◌, ◌%◌, min, ◌≡◌, cond, if◌then◌else◌, ◌==◌, List, [], ◌∷◌, ◌++◌, length, ltb}
+use Rattle.std.specs.Prelude.{Bool, true, false, ℕ, zero, suc, ◌+◌, ◌-◌, ◌/◌, ◌%◌, min, ◌≡◌, cond, if◌then◌else◌, ◌==◌, List, [], ◌∷◌, ◌++◌, length, ltb}
 use Rattle.std.proofs.lemmas.List.Edits.{sets}
 use Rattle.io.specs.Digits.{hex_digit_ascii, last_digits}
 
@@ -22,6 +22,11 @@ each f (b ∷ s) = f b ++ each f s
 -- two digits in lower case
 abbrev pub hex_octet : ℕ → List ℕ
 hex_octet b = hex_digit_ascii (b / 16) ∷ hex_digit_ascii (b % 16) ∷ []
+
+-- the same, behind a space where octets are to stand apart
+abbrev pub octet_shown : Bool → ℕ → List ℕ
+octet_shown true b = 32 ∷ hex_octet b
+octet_shown false b = hex_octet b
 
 abbrev pub hex_octets : List ℕ → List ℕ
 hex_octets s = each hex_octet s

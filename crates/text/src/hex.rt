@@ -3,9 +3,10 @@
 ghost use Rattle.std.specs.Prelude.{◌≡◌, ◌≤◌, Ok, Some, length};
 ghost use Rattle.text.specs.Hex.{is_blank, digit_of, between, comment, answer, Read};
 ghost use Rattle.text.specs.Steps.{Sound, Moved};
-ghost use Rattle.text.specs.Text.{hex_octets, spaced_octets};
+ghost use Rattle.std.specs.Fmt.{WritesOnOk};
+ghost use Rattle.text.specs.Text.{each, octet_shown, hex_octets, spaced_octets};
 
-use crate::{octets, spaced_octets};
+use crate::octets_shown;
 use std::fmt;
 
 // What is wrong with a text: the place of a character that cannot stand there, an octet at its end with one digit only, more octets than fit.
@@ -34,12 +35,21 @@ pub(crate) struct Reading {
 const AT_ONCE: usize = 32;
 
 // The digits of a few octets, put into a line.
-fn digits<'a>(few: &[u8], line: &'a mut [u8; 64]) -> &'a str
+fn digits<'a>(few: &[u8], is_spaced: bool, line: &'a mut [u8; 96]) -> &'a str
     requires { length few.now ≤ 32 }
-    ensures { result.now ≡ hex_octets few.now }
+    ensures { result.now ≡ each (octet_shown is_spaced) few.now }
 {
-    let end = octets(line, 0, few);
+    let end = octets_shown(line, 0, few, is_spaced);
     std::str::from_utf8(&line[..end]).unwrap_or("")
+}
+
+fn show<W: fmt::Write>(octets: &[u8], is_spaced: bool, f: &mut fmt::Formatter<W>) -> fmt::Result
+    ensures { WritesOnOk W.write_str_gives f.old result (each (octet_shown is_spaced) octets.now) f.new }
+{
+    for few in octets.chunks(AT_ONCE) {
+        f.write_str(digits(few, is_spaced, &mut [0; 96]))?;
+    }
+    Ok(())
 }
 
 // Octets in hexadecimal, two digits in lower case for each, without blanks.
@@ -50,20 +60,8 @@ impl fmt::Display for Octets<'_> {
     ghost output = { λ octets. Some (hex_octets octets.0.now) };
 
     fn fmt<W: fmt::Write>(&self, f: &mut fmt::Formatter<W>) -> fmt::Result {
-        for few in self.0.chunks(AT_ONCE) {
-            f.write_str(digits(few, &mut [0; 64]))?;
-        }
-        Ok(())
+        show(self.0, false, f)
     }
-}
-
-// The digits of a few octets, a space before each octet, put into a line.
-fn spaced_digits<'a>(few: &[u8], line: &'a mut [u8; 96]) -> &'a str
-    requires { length few.now ≤ 32 }
-    ensures { result.now ≡ spaced_octets few.now }
-{
-    let end = spaced_octets(line, 0, few);
-    std::str::from_utf8(&line[..end]).unwrap_or("")
 }
 
 // The same, a space before each octet.
@@ -74,10 +72,7 @@ impl fmt::Display for SpacedOctets<'_> {
     ghost output = { λ octets. Some (spaced_octets octets.0.now) };
 
     fn fmt<W: fmt::Write>(&self, f: &mut fmt::Formatter<W>) -> fmt::Result {
-        for few in self.0.chunks(AT_ONCE) {
-            f.write_str(spaced_digits(few, &mut [0; 96]))?;
-        }
-        Ok(())
+        show(self.0, true, f)
     }
 }
 

@@ -13,7 +13,7 @@ pub mod problem;
 ghost use Rattle.std.specs.Prelude.{◌≡◌, [], ◌∷◌, ◌<◌, take};
 ghost use Rattle.io.specs.Digits.{hex_digit_ascii};
 ghost use Rattle.text.specs.Out.{Adds};
-ghost use Rattle.text.specs.Text.{Said, hex_octet, hex_octets, spaced_octets, eight_digits, decimal_digits, signed_digits};
+ghost use Rattle.text.specs.Text.{Said, each, octet_shown, hex_octet, hex_octets, spaced_octets, eight_digits, decimal_digits, signed_digits};
 
 use out::Out;
 use std::io::Write;
@@ -53,27 +53,39 @@ pub fn octet(line: &mut [u8], at: usize, b: u8) -> usize
     put(line, k, digit(b % 16))
 }
 
+// The same, behind a space where octets are to stand apart.
+fn octet_shown(line: &mut [u8], at: usize, b: u8, is_spaced: bool) -> usize
+    ensures { Said line.old at (octet_shown is_spaced b) line.new result }
+{
+    if is_spaced {
+        let a = put(line, at, b' ');
+        return octet(line, a, b);
+    }
+    octet(line, at, b)
+}
+
+pub(crate) fn octets_shown(line: &mut [u8], at: usize, s: &[u8], is_spaced: bool) -> usize
+    ensures { Said line.old at (each (octet_shown is_spaced) s.now) line.new result }
+{
+    let mut k = at;
+    for &b in s {
+        k = octet_shown(line, k, b, is_spaced);
+    }
+    k
+}
+
 // Octets as hexadecimal digits, without blanks.
 pub fn octets(line: &mut [u8], at: usize, s: &[u8]) -> usize
     ensures { Said line.old at (hex_octets s.now) line.new result }
 {
-    let mut k = at;
-    for &b in s {
-        k = octet(line, k, b);
-    }
-    k
+    octets_shown(line, at, s, false)
 }
 
 // Octets as hexadecimal digits, a space before each.
 pub fn spaced_octets(line: &mut [u8], at: usize, s: &[u8]) -> usize
     ensures { Said line.old at (spaced_octets s.now) line.new result }
 {
-    let mut k = at;
-    for &b in s {
-        let a = put(line, k, b' ');
-        k = octet(line, a, b);
-    }
-    k
+    octets_shown(line, at, s, true)
 }
 
 // A number as eight hexadecimal digits.

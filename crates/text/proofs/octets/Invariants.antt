@@ -1,7 +1,0 @@
--- What was put is the text of the octets passed.
-use Rattle.std.proofs.Common.{take}
-use Rattle.text.specs.Text.{Said, each, hex_octet}
-use Rattle.text.proofs.octets.Given as goal
-
-abbrev pub invariant-loop-b : goal.invariant-loop-b
-invariant-loop-b l = Said l.fn.line l.at (each hex_octet (take l.b-index l.s)) l.line l.k
